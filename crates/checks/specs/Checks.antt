@@ -1,0 +1,19 @@
+-- A list of checks in a fixed order. Document 01: "Bad input gets one refusal number", the first in the order given there.
+use mathlib.Core.Path.{_≡_}
+use mathlib.Core.Bool.{Bool, false, cond}
+use mathlib.Core.List.{List, [], _∷_}
+
+infix 25 _⇒_
+-- `fails ⇒ why`: where the test is true, the request is refused because of `why`.
+pub data Check (W : Type 0) : Type 0 where
+  _⇒_ : Bool → W → Check W
+
+-- The first check that fails decides; where none fails, the answer is `a`.
+abbrev pub decide : {W A : Type 0} → (W → A) → List (Check W) → A → A
+decide refuse [] a = a
+decide refuse ((fails ⇒ why) ∷ rest) a = cond fails (refuse why) (decide refuse rest a)
+
+-- That no check of a list fails, as one pair for each.
+abbrev pub Passed : {W : Type 0} → List (Check W) → Type 0
+Passed [] = Unit
+Passed ((fails ⇒ why) ∷ rest) = (fails ≡ false) × Passed rest

@@ -1,0 +1,31 @@
+-- Document 01, "Refusal numbers and their order": the number of each refusal.
+use Prim.Native.Nat.{ℕ}
+use Rattle.refusal.specs.declared.Refusal.{Refusal}
+use Rattle.refusal.specs.declared.Refusal.the-variants.{ImageShort, ImageLong, NoMz, NePlace, NoNe, Shift, SegmentTable, ModuleTable, EntryTable, NonresidentTable, NoSuchNumber, SegmentOutside, Iterated, AllocationShort}
+
+abbrev pub numberOf : Refusal → ℕ
+-- "image under 64 bytes"
+numberOf ImageShort = 1
+-- "image over 16,777,216"
+numberOf ImageLong = 2
+-- "no "MZ""
+numberOf NoMz = 3
+-- "NE header's place"
+numberOf NePlace = 4
+-- "no "NE""
+numberOf NoNe = 5
+-- "alignment shift over 15"
+numberOf Shift = 6
+-- "segment, module, entry or nonresident table leaves the image"
+numberOf SegmentTable = 7
+numberOf ModuleTable = 7
+numberOf EntryTable = 7
+numberOf NonresidentTable = 7
+-- "number 0 or above the count"
+numberOf NoSuchNumber = 8
+-- "stored bytes or record list leave the image; records with sector 0"
+numberOf SegmentOutside = 9
+-- "iterated"
+numberOf Iterated = 10
+-- "allocation under stored length"
+numberOf AllocationShort = 11

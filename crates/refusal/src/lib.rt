@@ -1,0 +1,43 @@
+// Why a request is refused, and the number that document 01 gives for it.
+ghost use mathlib.Core.Path.{_≡_};
+ghost use Rattle.refusal.specs.Number.{numberOf};
+
+// One case for each thing that can be wrong, in the order of the numbers. Cases that share a number are kept apart.
+pub enum Refusal {
+    ImageShort,
+    ImageLong,
+    NoMz,
+    NePlace,
+    NoNe,
+    Shift,
+    SegmentTable,
+    ModuleTable,
+    EntryTable,
+    NonresidentTable,
+    NoSuchNumber,
+    SegmentOutside,
+    Iterated,
+    AllocationShort,
+}
+
+// The number of a refusal.
+pub fn number(why: Refusal) -> u32
+    ensures { λ r. ⌜ r ≡ numberOf why ⌝ }
+{
+    match why {
+        Refusal::ImageShort => 1,
+        Refusal::ImageLong => 2,
+        Refusal::NoMz => 3,
+        Refusal::NePlace => 4,
+        Refusal::NoNe => 5,
+        Refusal::Shift => 6,
+        Refusal::SegmentTable => 7,
+        Refusal::ModuleTable => 7,
+        Refusal::EntryTable => 7,
+        Refusal::NonresidentTable => 7,
+        Refusal::NoSuchNumber => 8,
+        Refusal::SegmentOutside => 9,
+        Refusal::Iterated => 10,
+        Refusal::AllocationShort => 11,
+    }
+}

@@ -1,0 +1,53 @@
+/*
+ * Parchgable: a proved reader of 16-bit Windows modules (New Executable, "NE").
+ *
+ * Every function takes any bytes as an image and any number as a request, and returns. None of them allocates, keeps a
+ * pointer, reads outside the memory that is lent to it or uses any state of its own, so all may be called from several
+ * threads at once.
+ *
+ * An image is a pointer and its length in bytes, from the first byte of the file ("MZ") on. The pointer to an empty image
+ * may be anything. Places are counted from the file's start.
+ *
+ * A result's `refusal` is 0 if the request was accepted. Otherwise it is the number of the first check that failed, and
+ * every other field is 0:
+ *
+ *      1  the image has under 64 bytes
+ *      2  the image has over 16,777,216 bytes
+ *      3  it does not start with "MZ"
+ *      4  the NE header does not start at 64 or later, or its 64 bytes do not lie in the image
+ *      5  the NE header does not start with "NE"
+ *      6  the alignment shift is over 15
+ *      7  the segment, module, entry or nonresident names table leaves the image
+ *      8  the number asked for is 0 or above the count
+ *      9  the segment's stored bytes or its record list leave the image, or it has records and no stored bytes
+ *     10  the segment is iterated
+ *     11  the segment's allocation is under its stored length
+ */
+#ifndef NE_H
+#define NE_H
+
+#include <stddef.h>
+#include <stdint.h>
+
+#ifdef __cplusplus
+extern "C" {
+#endif
+
+/* One record of the segment table. */
+struct ne_segment_result {
+    uint32_t refusal;
+    uint32_t start;      /* the place of the stored bytes */
+    uint32_t stored;     /* how many there are, 0 to 65,536 */
+    uint32_t flags;      /* the record's flag word */
+    uint32_t allocation; /* the bytes that the segment takes in memory, 1 to 65,536 */
+    uint32_t records;    /* its fixup records, 0 to 65,535 */
+};
+
+/* The segment of a number, counted from 1. Refusals: 1 to 7, then 8, 10, 11, 9. */
+struct ne_segment_result ne_segment(const uint8_t *image, size_t image_len, uint32_t number);
+
+#ifdef __cplusplus
+}
+#endif
+
+#endif

@@ -1,0 +1,65 @@
+//! The exported calls, each beside its reference.
+//!
+//! A call has a file of its own and one line in [`all`].
+
+mod segment;
+
+pub use segment::SegmentCall;
+
+use crate::answer::Answer;
+use crate::difference::{Answers, Difference};
+use crate::inputs::Input;
+use crate::seen::Seen;
+use crate::tally::Tally;
+use builder::Random;
+use std::fmt::Debug;
+
+/// How many requests each call makes of one image.
+pub const REQUESTS: u64 = 8;
+
+pub trait Call {
+    /// The exported name.
+    fn name(&self) -> &'static str;
+
+    /// The answers that it can give; 0 is acceptance. Each must be reached.
+    fn answers(&self) -> &'static [u32];
+
+    /// Demands the answers written out by hand of both programs.
+    fn edges(&self) -> Tally;
+
+    /// Makes one request, numbered under [`REQUESTS`], of both programs. The
+    /// answer is noted if they agree.
+    fn compare(
+        &self,
+        input: &Input,
+        request: u64,
+        random: &mut Random,
+        seen: &mut Seen,
+    ) -> Result<(), Difference>;
+}
+
+pub fn all() -> Vec<Box<dyn Call>> {
+    vec![Box::new(SegmentCall::exported())]
+}
+
+/// Notes an answer that both programs give.
+fn agree<T: PartialEq>(
+    call: &'static str,
+    library: &Answer<T>,
+    reference: &Answer<T>,
+    seen: &mut Seen,
+) -> bool {
+    let equal = library == reference;
+    if equal {
+        seen.note(call, reference.number());
+    }
+    equal
+}
+
+/// Both answers as text, if they differ.
+fn differing<T: PartialEq + Debug>(library: Answer<T>, reference: Answer<T>) -> Option<Answers> {
+    (library != reference).then(|| Answers {
+        library: library.to_string(),
+        reference: reference.to_string(),
+    })
+}

@@ -1,0 +1,28 @@
+//! Each refusal at its exact edges, on both sides.
+//!
+//! The images and the expected answers are written out by hand from document
+//! 01 and demanded of both programs. A call has a file of its own here.
+
+mod minimal;
+pub mod segment;
+
+use crate::answer::Answer;
+use crate::tally::Tally;
+use std::fmt::Debug;
+
+/// Counts one edge; both programs must give the expected answer.
+fn demand<T: PartialEq + Debug>(
+    tally: &mut Tally,
+    name: &str,
+    expected: &Answer<T>,
+    answers: [(&str, Answer<T>); 2],
+) {
+    let mut held = true;
+    for (program, answer) in answers {
+        if answer != *expected {
+            println!("FAILED edge: {name}\n  expected: {expected}\n  {program}: {answer}");
+            held = false;
+        }
+    }
+    tally.count(held);
+}

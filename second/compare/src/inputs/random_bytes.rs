@@ -1,0 +1,61 @@
+//! Random bytes, with more and more of a header planted in them.
+
+use super::Input;
+use builder::Random;
+
+/// The longest image that is admitted.
+const LONGEST_IMAGE: usize = 16_777_216;
+/// How many things can be planted.
+const PLANTS: usize = 6;
+
+pub fn input(random: &mut Random) -> Input {
+    let length = length(random);
+    let mut bytes = vec![0; length];
+    // Filling a very long image would take most of a run's time.
+    random.fill(&mut bytes[..length.min(100_000)]);
+    let planted = random.below(PLANTS + 1);
+    plant(&mut bytes, planted, random);
+    Input {
+        origin: format!("random, {length} bytes, {planted} things planted"),
+        bytes,
+        segment: None,
+    }
+}
+
+fn length(random: &mut Random) -> usize {
+    match random.below(2_000) {
+        0 => random.between(LONGEST_IMAGE - 1, LONGEST_IMAGE + 2),
+        1..=20 => random.below(100_000),
+        21..=200 => random.between(60, 68),
+        201..=400 => random.between(120, 140),
+        _ => random.below(1_000),
+    }
+}
+
+/// Plants the first few: "MZ", the NE header's place, "NE", an alignment shift,
+/// no tables but that of the segments, and a short one of those.
+fn plant(bytes: &mut [u8], planted: usize, random: &mut Random) {
+    let room = bytes.len().saturating_sub(128);
+    let place = 64 + random.below(room.min(1_000) + 1);
+    let shift = random.below(17) as u8;
+    let count = random.below(4) as u8;
+    let table = random.below(bytes.len().clamp(1, 256)) as u8;
+    let steps: [&[(usize, &[u8])]; PLANTS] = [
+        &[(0, b"MZ")],
+        &[(0x3C, &(place as u32).to_le_bytes())],
+        &[(place, b"NE")],
+        &[(place + 0x32, &[shift, 0])],
+        &[(place + 0x06, &[0, 0]), (place + 0x1E, &[0, 0, 0, 0])],
+        &[(place + 0x1C, &[count, 0]), (place + 0x22, &[table, 0])],
+    ];
+    for (at, held) in steps.iter().take(planted).copied().flatten() {
+        put(bytes, *at, held);
+    }
+}
+
+/// What doesn't fit is left out.
+fn put(bytes: &mut [u8], at: usize, held: &[u8]) {
+    if let Some(there) = bytes.get_mut(at..at + held.len()) {
+        there.copy_from_slice(held);
+    }
+}

@@ -1,0 +1,45 @@
+//! Compares the static library `ne` with the reference.
+//!
+//! Every exported function is called beside its reference on generated, damaged
+//! and random images, and every answer must be equal. Before that, each refusal
+//! is demanded of both at its exact edges, with answers written out by hand.
+//! The last line is the count of checks; the exit status is 0 when none failed.
+
+#![deny(unsafe_code)]
+
+mod answer;
+mod calls;
+mod difference;
+mod edges;
+mod group;
+mod inputs;
+#[allow(unsafe_code)]
+mod library;
+mod options;
+mod run;
+mod seen;
+mod streams;
+mod tally;
+#[cfg(test)]
+mod tests;
+
+use options::Options;
+use std::process::ExitCode;
+
+fn main() -> ExitCode {
+    let calls = calls::all();
+    let arguments = std::env::args().skip(1);
+    let options = match Options::parse(arguments, &run::names(&calls)) {
+        Ok(options) => options,
+        Err(message) => {
+            eprintln!("{message}");
+            return ExitCode::from(2);
+        }
+    };
+    let tally = run::run(&calls, &options);
+    println!("{}", tally.last_line(options.is_whole()));
+    match tally.failed() {
+        0 => ExitCode::SUCCESS,
+        _ => ExitCode::FAILURE,
+    }
+}

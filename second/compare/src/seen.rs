@@ -1,0 +1,84 @@
+//! How often each answer was seen, call by call.
+
+use crate::calls::Call;
+use crate::tally::Tally;
+use std::collections::{BTreeMap, BTreeSet};
+
+/// Counts by call and answer; 0 is acceptance. Only answers that both programs
+/// gave alike are here.
+#[derive(Clone, Debug, Default)]
+pub struct Seen {
+    counts: BTreeMap<(&'static str, u32), u64>,
+}
+
+impl Seen {
+    pub fn note(&mut self, call: &'static str, answer: u32) {
+        *self.counts.entry((call, answer)).or_insert(0) += 1;
+    }
+
+    pub fn count(&self, call: &'static str, answer: u32) -> u64 {
+        self.counts.get(&(call, answer)).copied().unwrap_or(0)
+    }
+
+    /// Each answer that a call can give must have been seen, and no other one.
+    pub fn check(&self, calls: &[&dyn Call]) -> Tally {
+        let mut tally = Tally::default();
+        for call in calls {
+            for answer in call.answers() {
+                let reached = self.count(call.name(), *answer) > 0;
+                if !reached {
+                    println!("FAILED: {} never gave {}", call.name(), name(*answer));
+                }
+                tally.count(reached);
+            }
+        }
+        for (call, answer) in self.out_of_place(calls) {
+            println!("FAILED: {call} can't give {}, but did", name(answer));
+            tally.count(false);
+        }
+        tally
+    }
+
+    fn out_of_place(&self, calls: &[&dyn Call]) -> Vec<(&'static str, u32)> {
+        let gives = |name: &str, answer| {
+            let mut named = calls.iter().filter(|call| call.name() == name);
+            named.any(|call| call.answers().contains(&answer))
+        };
+        let seen = self.counts.keys().copied();
+        seen.filter(|(call, answer)| !gives(call, *answer))
+            .collect()
+    }
+
+    /// A row for each answer and a column for each call.
+    pub fn table(&self, calls: &[&dyn Call]) -> String {
+        let answers: BTreeSet<u32> = calls
+            .iter()
+            .flat_map(|call| call.answers().iter().copied())
+            .collect();
+        let mut text = format!("{:<12}", "seen");
+        for call in calls {
+            text.push_str(&format!(" {:>22}", call.name()));
+        }
+        for answer in answers {
+            text.push_str(&format!("\n{:<12}", name(answer)));
+            for call in calls {
+                text.push_str(&format!(" {:>22}", self.cell(*call, answer)));
+            }
+        }
+        text
+    }
+
+    fn cell(&self, call: &dyn Call, answer: u32) -> String {
+        match call.answers().contains(&answer) {
+            true => self.count(call.name(), answer).to_string(),
+            false => "-".to_string(),
+        }
+    }
+}
+
+fn name(answer: u32) -> String {
+    match answer {
+        0 => "accepted".to_string(),
+        _ => format!("refusal {answer}"),
+    }
+}

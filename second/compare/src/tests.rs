@@ -1,0 +1,9 @@
+//! That the comparison can fail, and fails well.
+
+mod cases;
+mod edges;
+mod library;
+mod options;
+mod reports;
+mod seen;
+mod wrong;

@@ -1,0 +1,91 @@
+//! The generated cases.
+
+use super::wrong::{call, rare_start, right, WRONG};
+use crate::calls::Call;
+use crate::group;
+use crate::inputs::{Kind, KINDS};
+use crate::options::Options;
+use crate::seen::Seen;
+use crate::tally::Tally;
+
+fn compare(kind: Kind, call: &dyn Call, options: &Options) -> Tally {
+    group::compare(kind, &[call], options, &mut Seen::default())
+}
+
+fn options() -> Options {
+    Options {
+        cases: 160_000,
+        ..Options::default()
+    }
+}
+
+#[test]
+fn the_right_one_has_no_differences() {
+    for kind in KINDS {
+        let tally = compare(kind, &call(right), &options());
+        assert_eq!((tally.passed(), tally.failed()), (1, 0), "{kind:?}");
+    }
+}
+
+#[test]
+fn every_wrong_one_is_found() {
+    for (name, library) in WRONG {
+        let found = KINDS.into_iter().filter(|kind| {
+            let tally = compare(*kind, &call(library), &options());
+            tally.failed() == 1
+        });
+        assert!(found.count() > 0, "{name}");
+    }
+}
+
+#[test]
+fn a_kind_without_cases_fails() {
+    let none = Options {
+        cases: 0,
+        ..Options::default()
+    };
+    assert_eq!(compare(Kind::Sound, &call(right), &none).failed(), 1);
+    let past_the_last = Options {
+        only_case: Some(1 << 40),
+        ..Options::default()
+    };
+    let tally = compare(Kind::Special, &call(right), &past_the_last);
+    assert_eq!(tally.failed(), 1);
+}
+
+#[test]
+fn a_panic_counts_as_a_difference() {
+    let tally = compare(Kind::Special, &call(|_, _| panic!("on purpose")), &one(3));
+    assert_eq!((tally.passed(), tally.failed()), (0, 1));
+}
+
+fn one(case: u64) -> Options {
+    Options {
+        only_case: Some(case),
+        ..options()
+    }
+}
+
+#[test]
+fn an_image_depends_on_its_number_alone() {
+    for kind in KINDS {
+        let all: Vec<_> = kind.inputs(9, 0..40).collect();
+        let some: Vec<_> = kind.inputs(9, 20..40).collect();
+        assert_eq!((all.len(), some.len()), (40, 20));
+        for (first, again) in all[20..].iter().zip(&some) {
+            assert_eq!(first.bytes, again.bytes, "{kind:?}");
+            assert_eq!(first.origin, again.origin);
+        }
+    }
+}
+
+#[test]
+fn a_differing_case_differs_alone_too() {
+    let wrong = call(rare_start);
+    let differs = |case: &u64| compare(Kind::Sound, &wrong, &one(*case)).failed() == 1;
+    let cases: Vec<u64> = (0..2_000).filter(differs).collect();
+    assert!(!cases.is_empty());
+    assert!(cases.iter().all(differs));
+    let tally = compare(Kind::Sound, &call(right), &one(cases[0]));
+    assert_eq!((tally.passed(), tally.failed()), (1, 0));
+}

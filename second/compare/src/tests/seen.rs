@@ -1,0 +1,60 @@
+//! The answers that must be reached.
+
+use super::wrong::{call, right};
+use crate::calls::{Call, SegmentCall};
+use crate::seen::Seen;
+
+const CALL: &str = "ne_segment";
+
+/// Answers 0 to 11 but for one.
+fn without(missing: Option<u32>) -> Seen {
+    let mut seen = Seen::default();
+    for answer in (0..=11).filter(|answer| Some(*answer) != missing) {
+        seen.note(CALL, answer);
+    }
+    seen
+}
+
+fn segment() -> SegmentCall {
+    call(right)
+}
+
+#[test]
+fn all_answers_reached() {
+    let tally = without(None).check(&[&segment()]);
+    assert_eq!((tally.passed(), tally.failed()), (12, 0));
+}
+
+#[test]
+fn an_answer_never_reached_fails() {
+    for missing in 0..=11 {
+        let tally = without(Some(missing)).check(&[&segment()]);
+        assert_eq!((tally.passed(), tally.failed()), (11, 1), "{missing}");
+    }
+    assert_eq!(Seen::default().check(&[&segment()]).failed(), 12);
+}
+
+#[test]
+fn an_answer_of_another_call_fails() {
+    let mut seen = without(None);
+    seen.note(CALL, 12);
+    let tally = seen.check(&[&segment()]);
+    assert_eq!((tally.passed(), tally.failed()), (12, 1));
+}
+
+#[test]
+fn the_table_has_every_answer() {
+    let mut seen = without(Some(11));
+    seen.note(CALL, 3);
+    let table = seen.table(&[&segment()]);
+    let rows: Vec<Vec<&str>> = table
+        .lines()
+        .map(|row| row.split_whitespace().collect())
+        .collect();
+    assert_eq!(rows.len(), 13);
+    assert_eq!(rows[0], ["seen", CALL]);
+    assert_eq!(rows[1], ["accepted", "1"]);
+    assert_eq!(rows[4], ["refusal", "3", "2"]);
+    assert_eq!(rows[12], ["refusal", "11", "0"]);
+    assert_eq!(segment().answers().len(), 12);
+}
