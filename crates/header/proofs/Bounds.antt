@@ -10,7 +10,7 @@ use lib.ListN.{length}
 use lib.Pow.{pow-mono}
 use Rattle.checks.specs.Checks.{Passed}
 use Rattle.checks.proofs.Checks.{passed, answered}
-use Rattle.header.specs.Header.{headerOf, headerChecks, tablesOf, leaves, nePlace, shiftOf}
+use Rattle.header.specs.Header.{headerOf, headerChecks, tablesOf, leaves, nePlace, fieldOf}
 use Rattle.header.specs.Inside.{Inside}
 use Rattle.header.specs.declared.Header.{Header}
 use Rattle.header.specs.declared.Answer.{Answer}
@@ -28,7 +28,7 @@ stays len at size e h =
 
 module _ (image : List ℕ) where
   tables : Header
-  tables = tablesOf image (nePlace image) (shiftOf image)
+  tables = tablesOf image (nePlace image)
 
   all-passed : is-refusal (headerOf image) ≡ false → Passed (headerChecks image)
   unfolding headerOf is-refusal
@@ -48,7 +48,7 @@ module _ (image : List ℕ) where
         size = ltb-false 16777216 len (p .1 .0);
         ne-low = ltb-false (nePlace image) 64 (p .1 .1 .1 .0);
         ne-end = ltb-false len (nePlace image + 64) (p .1 .1 .1 .1 .0);
-        unit = pow-mono (ltb-false 15 (shiftOf image) (p .1 .1 .1 .1 .1 .1 .0));
+        unit = pow-mono (ltb-false 15 (fieldOf image (nePlace image) 0x32) (p .1 .1 .1 .1 .1 .1 .0));
         segments = λ h. stays len _ _ (t .0) (omega arith);
         modules = λ h. stays len _ _ (t .1 .0) (omega arith);
         entries = λ h. stays len _ _ (t .1 .1 .0) h;

@@ -20,18 +20,14 @@ nePlace image = dwordAt image 0x3c
 abbrev pub fieldOf : List ℕ → ℕ → ℕ → ℕ
 fieldOf image ne offset = wordAt image (ne + offset)
 
--- "32 alignment shift".
-abbrev pub shiftOf : List ℕ → ℕ
-shiftOf image = fieldOf image (nePlace image) 0x32
-
 -- "NE offsets (hex): [...] 04 entry table, 06 its bytes, 1C segment count, 1E module count, 20 nonresident bytes, 22
 -- segment table, 24 resource table, 26 resident names, 28 module references, 2A imported names, 2C nonresident names
--- (dword, from file start), 32 alignment shift. All other table places count from the NE header."
-unfoldable pub tablesOf : List ℕ → ℕ → ℕ → Header
-tablesOf image ne shift =
+-- (dword, from file start), 32 alignment shift. All other table places count from the NE header." A sector has 2^shift bytes.
+unfoldable pub tablesOf : List ℕ → ℕ → Header
+tablesOf image ne =
     record {
       ne = ne;
-      unit = 2 ^ shift;
+      unit = 2 ^ fieldOf image ne 0x32;
       segments = record { at = ne + fieldOf image ne 0x22; count = fieldOf image ne 0x1c };
       modules = record { at = ne + fieldOf image ne 0x28; count = fieldOf image ne 0x1e };
       entries = record { at = ne + fieldOf image ne 0x04; count = fieldOf image ne 0x06 };
@@ -56,6 +52,7 @@ tableChecks len h =
     ∷ (leaves len (h .nonresident .at) (h .nonresident .count) ⇒ NonresidentTable)
     ∷ []
 
+-- What the table checks decide of a header.
 abbrev pub inside : ℕ → Header → Answer
 inside len h = decide Refused (tableChecks len h) (Accepted h)
 
@@ -70,12 +67,12 @@ headerChecks image =
     ∷ (ltb ne 64 ⇒ NePlace)
     ∷ (ltb len (ne + 64) ⇒ NePlace)
     ∷ (not (eqb (wordAt image ne) 0x454e) ⇒ NoNe)
-    ∷ (ltb 15 (shiftOf image) ⇒ Shift)
-    ∷ tableChecks len (tablesOf image ne (shiftOf image))
+    ∷ (ltb 15 (fieldOf image ne 0x32) ⇒ Shift)
+    ∷ tableChecks len (tablesOf image ne)
 
 -- What the header of an image answers: the first refusal, or where everything stands.
 unfoldable pub headerOf : List ℕ → Answer
-headerOf image = decide Refused (headerChecks image) (Accepted (tablesOf image (nePlace image) (shiftOf image)))
+headerOf image = decide Refused (headerChecks image) (Accepted (tablesOf image (nePlace image)))
 
 -- For whoever goes on from a header: its refusal, or what follows of it.
 unfoldable pub onHeader : {A : Type 0} → Answer → (Refusal → A) → (Header → A) → A

@@ -94,10 +94,10 @@ fn leaves(len: usize, at: u32, size: usize) -> bool
     len < at as usize + size
 }
 
-// What the NE header at `ne` says, with every place counted from the file's start.
+// What the NE header at `ne`, whose shift was read before, says. Every place counts from the file's start.
 fn tables(image: &[u8], ne: u32, shift: u16) -> Header
-    requires { ⌜ (ne ≤ 16777216) × (shift ≤ 15) ⌝ }
-    ensures { λ r. ⌜ r ≡ tablesOf (now (image .entry)) ne shift ⌝ }
+    requires { ⌜ (ne ≤ 16777216) × (shift ≤ 15) × (shift ≡ fieldOf (now image) ne 0x32) ⌝ }
+    ensures { λ r. ⌜ r ≡ tablesOf (now (image .entry)) ne ⌝ }
 {
     Header {
         ne: ne,

@@ -11,7 +11,7 @@ use lib.ListN.{length, drop}
 use Rattle.le.specs.Number.{wordAt}
 use Rattle.checks.specs.Checks.{decide}
 use Rattle.checks.proofs.Tests.{eq-not-eqb, ne-not-eqb}
-use Rattle.header.specs.Header.{headerOf, headerChecks, tablesOf, nePlace, shiftOf}
+use Rattle.header.specs.Header.{headerOf, headerChecks, tablesOf, nePlace, fieldOf}
 use Rattle.header.specs.declared.Answer.the-variants.{Accepted, Refused}
 use borrow.Author.Needs.{needs}
 use Rattle.header.proofs.read.Statement.{statement}
@@ -19,7 +19,7 @@ use Rattle.header.proofs.read.Tie as tie
 
 -- The first k checks passed.
 abbrev After : ℕ → List ℕ → Type 0
-After k image = headerOf image ≡ decide Refused (drop k (headerChecks image)) (Accepted (tablesOf image (nePlace image) (shiftOf image)))
+After k image = headerOf image ≡ decide Refused (drop k (headerChecks image)) (Accepted (tablesOf image (nePlace image)))
 
 after1 : (c : tie.Else1) → After 1 (now (c .before .before .args .image))
 unfolding headerOf headerChecks
@@ -69,8 +69,8 @@ unfolding headerOf headerChecks
 after7 c =
     let im = now (c .before .before .before .before .before .before .before .before .before .before .before .before .args .image) in
     let read = rw (c .before .before .before .before .before .before .dword .ensures) at (c .before .word3 .ensures) in
-    let h : shiftOf im ≤ 15 = omega arith in
-    after6 (c .before .before) ∙ rw (le-ltb 15 (shiftOf im) h)
+    let h : fieldOf im (nePlace im) 0x32 ≤ 15 = omega arith in
+    after6 (c .before .before) ∙ rw (le-ltb 15 (fieldOf im (nePlace im) 0x32) h)
 
 returns : tie.Need-returns
 unfolding headerOf headerChecks
@@ -141,8 +141,8 @@ unfolding headerOf headerChecks
 returns-7 c =
     let im = now (c .before .before .before .before .before .before .before .before .before .before .before .before .args .image) in
     let read = rw (c .before .before .before .before .before .before .dword .ensures) at (c .before .word3 .ensures) in
-    let h : 15 < shiftOf im = omega arith in
-    sym (after6 (c .before .before) ∙ rw (lt-ltb 15 (shiftOf im) h))
+    let h : 15 < fieldOf im (nePlace im) 0x32 = omega arith in
+    sym (after6 (c .before .before) ∙ rw (lt-ltb 15 (fieldOf im (nePlace im) 0x32) h))
 
 tables-requires : tie.Need-tables-requires
 tables-requires c κs = search needs
@@ -154,7 +154,7 @@ returns-8 : tie.Need-returns-8
 unfolding headerChecks
 returns-8 c =
     c .inside .ensures
-    ∙ rw (c .before .tables .ensures, c .before .before .before .word3 .ensures, c .before .before .before .before .before .before .before .before .dword .ensures) (sym (after7 (c .before .before)))
+    ∙ rw (c .before .tables .ensures, c .before .before .before .before .before .before .before .before .dword .ensures) (sym (after7 (c .before .before)))
 
 pub read-spec : {M : Type 1} → statement M
 read-spec =

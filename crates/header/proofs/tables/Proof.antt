@@ -49,6 +49,7 @@ unfolding tablesOf
 returns c =
     rw (
       c .before .before .before .before .before .before .before .before .before .before .before .power .ensures,
+      c .before .before .before .before .before .before .before .before .before .before .before .before .before .pre .2,
       c .before .before .before .before .before .before .before .before .before .before .place .ensures,
       c .before .before .before .before .before .before .before .before .before .field .ensures,
       c .before .before .before .before .before .before .before .before .place2 .ensures,
