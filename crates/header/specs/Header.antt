@@ -52,10 +52,6 @@ tableChecks len h =
     ∷ (leaves len (h .nonresident .at) (h .nonresident .count) ⇒ NonresidentTable)
     ∷ []
 
--- What the table checks decide of a header.
-abbrev pub inside : ℕ → Header → Answer
-inside len h = decide Refused (tableChecks len h) (Accepted h)
-
 -- The refusals 1 to 7 in their order. "MZ" is 4Dh 5Ah and "NE" is 4Eh 45h, each read as a word.
 unfoldable pub headerChecks : List ℕ → List (Check Refusal)
 headerChecks image =

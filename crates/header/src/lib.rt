@@ -2,7 +2,8 @@
 use refusal::Refusal;
 ghost use mathlib.Core.Path.{_≡_};
 ghost use Prim.Native.Nat.{_+_, _≤_, _<_, _^_};
-ghost use Rattle.header.specs.Header.{headerOf, tablesOf, fieldOf, leaves, inside};
+ghost use Rattle.checks.specs.Checks.{decide};
+ghost use Rattle.header.specs.Header.{headerOf, tableChecks, tablesOf, fieldOf, leaves};
 
 // A table of `count` elements from the place `at` on, counted from the file's start.
 pub struct Table {
@@ -64,7 +65,7 @@ pub fn read(image: &[u8]) -> Answer
 
 // The header, where none of its sized tables leaves an image of `len` bytes.
 fn inside(len: usize, h: Header) -> Answer
-    ensures { λ r. ⌜ r ≡ inside len h ⌝ }
+    ensures { λ r. ⌜ r ≡ decide Answer.Refused (tableChecks len h) (Answer.Accepted h) ⌝ }
 {
     let segments = h.segments.count as usize;
     if leaves(len, h.segments.at, 8 * segments) {
