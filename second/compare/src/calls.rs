@@ -2,8 +2,11 @@
 //!
 //! A call has a file of its own and one line in [`all`].
 
+mod by_number;
+mod numbers;
 mod segment;
 
+pub use by_number::ByNumber;
 pub use segment::SegmentCall;
 
 use crate::answer::Answer;

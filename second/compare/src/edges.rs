@@ -1,8 +1,11 @@
 //! Each refusal at its exact edges, on both sides.
 //!
 //! The images and the expected answers are written out by hand from document
-//! 01 and demanded of both programs. A call has a file of its own here.
+//! 01 and demanded of both programs. A call has a file of its own here; what
+//! every call does first is in `header`.
 
+mod header;
+pub mod judge;
 mod minimal;
 pub mod segment;
 

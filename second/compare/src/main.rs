@@ -18,6 +18,7 @@ mod library;
 mod options;
 mod run;
 mod seen;
+mod stated;
 mod streams;
 mod tally;
 #[cfg(test)]

@@ -1,8 +1,6 @@
 //! The segment query's edges.
 
 mod flags;
-mod header;
-mod image;
 mod number;
 mod order;
 mod records;
@@ -11,92 +9,50 @@ mod stored;
 mod tables;
 mod untested;
 
-use super::demand;
+use super::header::{self, Changed};
+use super::judge::{self, Edges};
 use super::minimal::Minimal;
-use crate::answer::Answer;
 use crate::calls::SegmentCall;
-use crate::library;
-use crate::tally::Tally;
-use reference::Segment;
 
-type Edges = fn(&mut Judge);
+type Judge = judge::Judge<SegmentCall>;
 
-/// The edges by their subject.
-const GROUPS: [(&str, Edges); 10] = [
-    ("image (1 to 3)", image::edges),
-    ("NE header (4, 5)", header::edges),
-    ("alignment shift (6)", shift::edges),
-    ("sized tables (7)", tables::edges),
-    ("number (8)", number::edges),
-    ("stored bytes (9)", stored::edges),
-    ("record list (9)", records::edges),
-    ("flags and allocation (10, 11)", flags::edges),
-    ("order of refusals", order::edges),
-    ("what isn't looked at", untested::edges),
-];
-
-pub fn run(call: &SegmentCall) -> Tally {
-    let mut whole = Tally::default();
-    for (name, edges) in GROUPS {
-        let mut judge = Judge::new(*call);
-        edges(&mut judge);
-        println!(
-            "{}",
-            judge.tally.line(&format!("edges of ne_segment, {name}"))
-        );
-        whole.add(judge.tally);
-    }
-    whole
+pub fn by_subject() -> Vec<Edges<SegmentCall>> {
+    let own: [Edges<SegmentCall>; 8] = [
+        ("starts by the shift", shift::edges),
+        ("segment and entry table (7)", tables::edges),
+        ("number (8)", number::edges),
+        ("stored bytes (9)", stored::edges),
+        ("record list (9)", records::edges),
+        ("flags and allocation (10, 11)", flags::edges),
+        ("order of refusals", order::edges),
+        ("what isn't looked at", untested::edges),
+    ];
+    header::by_subject().into_iter().chain(own).collect()
 }
 
-/// Asks both programs and counts.
-struct Judge {
-    call: SegmentCall,
-    tally: Tally,
-}
-
-impl Judge {
-    fn new(call: SegmentCall) -> Self {
-        Judge {
-            call,
-            tally: Tally::default(),
-        }
+impl Changed for SegmentCall {
+    /// The 8 bytes are those stored.
+    fn plain() -> Minimal {
+        plain()
     }
 
-    /// `values`: start, stored, flags, allocation, records.
-    fn accepts(&mut self, name: &str, image: &Minimal, number: u32, values: [u32; 5]) {
-        let [start, stored, flags, allocation, records] = values;
-        let segment = Segment {
-            start,
-            stored,
-            flags,
-            allocation,
-            records,
-        };
-        self.both(name, image, number, Answer::Accepted(segment));
+    const PLAIN: [u32; 5] = PLAIN;
+
+    fn unsound() -> Minimal {
+        plain().record(128, [0xFFFF, 0, 0x0108, 1])
     }
 
-    fn refuses(&mut self, name: &str, image: &Minimal, number: u32, refusal: u32) {
-        self.both(name, image, number, Answer::Refused(refusal));
+    /// Of sector 0.
+    fn in_header(place: usize) -> Minimal {
+        Minimal::with_header_at(place)
+            .ne_word(0x1C, 1)
+            .ne_word(0x22, 0x34)
+            .record(place + 0x34, [0, 5, 0x0010, 3])
     }
 
-    fn both(&mut self, name: &str, image: &Minimal, number: u32, expected: Answer<Segment>) {
-        let bytes = image.bytes();
-        let answers = [
-            ("library", self.call.library(bytes, number)),
-            ("reference", SegmentCall::reference(bytes, number)),
-        ];
-        demand(&mut self.tally, name, &expected, answers);
-    }
+    const IN_HEADER: [u32; 5] = [0, 0, 0x0010, 3, 0];
 
-    /// An image of 0 bytes, which the library may be handed at any address.
-    fn refuses_nothing_at(&mut self, name: &str, address: usize, refusal: u32) {
-        let answers = [
-            ("library", library::segment_of_nothing(address, 1).into()),
-            ("reference", SegmentCall::reference(&[], 1)),
-        ];
-        demand(&mut self.tally, name, &Answer::Refused(refusal), answers);
-    }
+    const WITHOUT_TABLES: u32 = 8;
 }
 
 /// An image with a segment table at 128 and nothing after it.

@@ -1,37 +1,8 @@
-//! Refusal 6: the alignment shift.
+//! Start = sector times 2^shift; shift 0 is times 1.
 
-use super::{module, plain, Judge, Minimal, PLAIN};
+use super::{module, plain, Judge, PLAIN};
 
 pub fn edges(judge: &mut Judge) {
-    greatest(judge);
-    without_segments(judge);
-    starts(judge);
-}
-
-/// One segment of sector 0.
-fn no_sector(shift: u16) -> Minimal {
-    module(&[[0, 0, 0, 1]]).ne_word(0x32, shift)
-}
-
-fn greatest(judge: &mut Judge) {
-    judge.accepts("shift 15", &no_sector(15), 1, [0, 0, 0, 1, 0]);
-    for shift in [16, 17, 31, 32, 64, 0x0100, 0x0F00, 0x1000, 0x8000, 0xFFFF] {
-        let name = format!("shift {shift}");
-        judge.refuses(&name, &no_sector(shift), 1, 6);
-    }
-}
-
-fn without_segments(judge: &mut Judge) {
-    let empty = Minimal::new();
-    let shift = |shift| empty.clone().ne_word(0x32, shift);
-    judge.refuses("shift 15 without segments", &shift(15), 1, 8);
-    judge.refuses("shift 16 without segments", &shift(16), 1, 6);
-    judge.refuses("shift FFFFh without segments", &shift(0xFFFF), 1, 6);
-    judge.refuses("shift 16, no segments, number 0", &shift(16), 0, 6);
-}
-
-/// Start = sector times 2^shift; shift 0 is times 1.
-fn starts(judge: &mut Judge) {
     judge.accepts("shift 0 is times 1", &plain().ne_word(0x32, 0), 1, PLAIN);
     let at = |sector, shift, length| {
         let image = module(&[[sector, 8, 0, 8]]).ne_word(0x32, shift);
