@@ -4,9 +4,11 @@
 
 mod by_number;
 mod numbers;
+mod ordinal;
 mod segment;
 
 pub use by_number::ByNumber;
+pub use ordinal::OrdinalCall;
 pub use segment::SegmentCall;
 
 use crate::answer::Answer;
@@ -42,7 +44,10 @@ pub trait Call {
 }
 
 pub fn all() -> Vec<Box<dyn Call>> {
-    vec![Box::new(SegmentCall::exported())]
+    vec![
+        Box::new(SegmentCall::exported()),
+        Box::new(OrdinalCall::exported()),
+    ]
 }
 
 /// Notes an answer that both programs give.

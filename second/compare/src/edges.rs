@@ -7,11 +7,23 @@
 mod header;
 pub mod judge;
 mod minimal;
+pub mod ordinal;
 pub mod segment;
 
 use crate::answer::Answer;
 use crate::tally::Tally;
 use std::fmt::Debug;
+
+/// Numbers from the greatest word on, some with low words 0 and 1.
+const GREAT: [u32; 7] = [
+    65_535,
+    65_536,
+    65_537,
+    0x7FFF_FFFF,
+    0x8000_0000,
+    0x8000_0001,
+    0xFFFF_FFFF,
+];
 
 /// Counts one edge; both programs must give the expected answer.
 fn demand<T: PartialEq + Debug>(

@@ -12,6 +12,7 @@ mod untested;
 use super::header::{self, Changed};
 use super::judge::{self, Edges};
 use super::minimal::Minimal;
+use super::GREAT;
 use crate::calls::SegmentCall;
 
 type Judge = judge::Judge<SegmentCall>;

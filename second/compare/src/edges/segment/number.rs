@@ -1,6 +1,6 @@
 //! Refusal 8: the number asked for.
 
-use super::{module, plain, Judge, Minimal, PLAIN};
+use super::{module, plain, Judge, Minimal, GREAT, PLAIN};
 
 pub fn edges(judge: &mut Judge) {
     of_three(judge);
@@ -8,17 +8,6 @@ pub fn edges(judge: &mut Judge) {
     of_none(judge);
     of_the_most(judge);
 }
-
-/// Numbers past 16 bits, with low words 0 and 1.
-const GREAT: [u32; 7] = [
-    65_535,
-    65_536,
-    65_537,
-    0x7FFF_FFFF,
-    0x8000_0000,
-    0x8000_0001,
-    0xFFFF_FFFF,
-];
 
 fn of_three(judge: &mut Judge) {
     let three = module(&[[0, 0, 1, 11], [0, 0, 2, 12], [0, 0, 4, 13]]);

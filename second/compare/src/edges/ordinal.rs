@@ -1,0 +1,129 @@
+//! The ordinal query's edges.
+
+mod counts;
+mod covered;
+mod ends;
+mod examples;
+mod order;
+mod segments;
+mod tables;
+mod untested;
+
+use super::header::{self, Changed};
+use super::judge::{self, Edges};
+use super::minimal::Minimal;
+use super::GREAT;
+use crate::calls::OrdinalCall;
+
+type Judge = judge::Judge<OrdinalCall>;
+
+pub fn by_subject() -> Vec<Edges<OrdinalCall>> {
+    let own: [Edges<OrdinalCall>; 8] = [
+        ("P10 and P11", examples::edges),
+        ("segment and entry table (7)", tables::edges),
+        ("end of the table (12)", ends::edges),
+        ("segments and CDh 3Fh (13)", segments::edges),
+        ("count of ordinals (14)", counts::edges),
+        ("covered and null (15)", covered::edges),
+        ("order of refusals", order::edges),
+        ("what isn't looked at", untested::edges),
+    ];
+    header::by_subject().into_iter().chain(own).collect()
+}
+
+impl Changed for OrdinalCall {
+    /// The 8 bytes are the entry table.
+    fn plain() -> Minimal {
+        plain()
+    }
+
+    const PLAIN: [u32; 3] = PLAIN;
+
+    /// Segment 2 of 1.
+    fn unsound() -> Minimal {
+        plain().put(137, &[2])
+    }
+
+    /// The segment table is the header's last 8 bytes.
+    fn in_header(place: usize) -> Minimal {
+        Minimal::with_header_at(place)
+            .ne_word(0x1C, 1)
+            .ne_word(0x22, 0x38)
+            .ne_word(0x04, 0x34)
+            .ne_word(0x06, 6)
+            .put(place + 0x34, &ONE_FIXED)
+    }
+
+    const IN_HEADER: [u32; 3] = PLAIN;
+
+    const WITHOUT_TABLES: u32 = 15;
+}
+
+/// A table of one fixed entry in segment 1.
+const ONE_FIXED: [u8; 6] = [1, 1, 0xA5, 0x34, 0x12, 0];
+
+/// The entry, which is ordinal 1.
+const PLAIN: [u32; 3] = [1, 0x1234, 0xA5];
+
+/// The table of one fixed entry with two bytes behind its end.
+fn plain() -> Minimal {
+    module(1, &[&ONE_FIXED[..], &[0xEE, 0xEE]].concat())
+}
+
+/// An image with so many segments, their records at 128, and this entry table
+/// right behind them, which ends the image.
+fn module(segments: u16, table: &[u8]) -> Minimal {
+    let place = 64 + 8 * segments;
+    let at = 64 + usize::from(place);
+    let bytes = u16::try_from(table.len()).expect("a byte count");
+    Minimal::new()
+        .length(at + table.len())
+        .ne_word(0x1C, segments)
+        .ne_word(0x22, 64)
+        .ne_word(0x04, place)
+        .ne_word(0x06, bytes)
+        .put(at, table)
+}
+
+/// The bundles and an end byte.
+fn ended(bundles: &[&[u8]]) -> Vec<u8> {
+    [&bundles.concat()[..], &[0]].concat()
+}
+
+/// Bundles with so many null ordinals in all.
+fn nulls(count: usize) -> Vec<u8> {
+    let mut bundles = [255, 0].repeat(count / 255);
+    if count % 255 != 0 {
+        bundles.extend([(count % 255) as u8, 0]);
+    }
+    bundles
+}
+
+/// A bundle of so many equal entries in a fixed segment.
+fn fixed(segment: u8, count: u8) -> Vec<u8> {
+    let entries = [0x11, 0x22, 0x33].repeat(usize::from(count));
+    [&[count, segment], &entries[..]].concat()
+}
+
+/// What an entry of [`fixed`] gives.
+fn in_fixed(segment: u32) -> [u32; 3] {
+    [segment, 0x3322, 0x11]
+}
+
+/// A bundle of so many equal movable entries.
+fn movable(segment: u8, count: u8) -> Vec<u8> {
+    let entries = [0x44, 0xCD, 0x3F, segment, 0x55, 0x66].repeat(usize::from(count));
+    [&[count, 255], &entries[..]].concat()
+}
+
+/// What an entry of [`movable`] gives.
+fn in_movable(segment: u32) -> [u32; 3] {
+    [segment, 0x6655, 0x44]
+}
+
+/// The refusal is given whatever ordinal is asked for.
+fn refuses_all(judge: &mut Judge, name: &str, image: &Minimal, refusal: u32) {
+    for number in [0, 1, 2].into_iter().chain(GREAT) {
+        judge.refuses(&format!("{name}, {number}"), image, number, refusal);
+    }
+}
