@@ -9,20 +9,45 @@ pub(super) fn entry_table(random: &mut Random, segments: usize) -> EntryTable {
     if random.chance(8) {
         return table;
     }
-    let bundles = match random.below(40) {
-        0..=2 => 0,
-        3 => random.between(5, 20),
-        _ => random.between(1, 4),
+    table.bundles = if random.one_in(1000) {
+        most_ordinals(random, segments)
+    } else {
+        few_bundles(random, segments)
     };
-    for _ in 0..bundles {
-        table.bundles.push(bundle(random, segments));
-    }
     table.end = true;
     if random.chance(25) {
         table.trailing = vec![0; random.between(1, 5)];
         random.fill(&mut table.trailing);
     }
     table
+}
+
+fn few_bundles(random: &mut Random, segments: usize) -> Vec<Bundle> {
+    let count = match random.below(40) {
+        0..=2 => 0,
+        3 => random.between(5, 20),
+        _ => random.between(1, 4),
+    };
+    (0..count).map(|_| bundle(random, segments)).collect()
+}
+
+/// 65,535 ordinals or a few less, most of them null.
+fn most_ordinals(random: &mut Random, segments: usize) -> Vec<Bundle> {
+    let mut bundles = vec![Bundle::Null { count: 255 }; 256];
+    let mut left = 255;
+    loop {
+        let next = bundle(random, segments);
+        if next.count() > left {
+            break;
+        }
+        left -= next.count();
+        bundles.push(next);
+    }
+    if left > 0 && random.chance(50) {
+        bundles.push(Bundle::Null { count: left as u8 });
+    }
+    random.shuffle(&mut bundles);
+    bundles
 }
 
 fn bundle(random: &mut Random, segments: usize) -> Bundle {

@@ -87,6 +87,7 @@ fn entries(count: &mut Count, description: &Description) {
     count.add("entry table of size 0", !table.end);
     count.add("only an end byte", table.end && table.bundles.is_empty());
     count.add("bytes after the end byte", !table.trailing.is_empty());
+    count.add("65,535 ordinals", table.ordinals() == 65_535);
     for bundle in &table.bundles {
         count.add("null bundle", matches!(bundle, Bundle::Null { .. }));
         count.add("fixed bundle", matches!(bundle, Bundle::Fixed { .. }));

@@ -6,7 +6,9 @@ use builder::Random;
 /// The longest image that is admitted.
 const LONGEST_IMAGE: usize = 16_777_216;
 /// How many things can be planted.
-const PLANTS: usize = 6;
+const PLANTS: usize = 7;
+/// Bytes that mean something in an entry table.
+const ENTRY_BYTES: [u8; 8] = [0, 1, 2, 3, 254, 255, 0xCD, 0x3F];
 
 pub fn input(random: &mut Random) -> Input {
     let length = length(random);
@@ -33,13 +35,17 @@ fn length(random: &mut Random) -> usize {
 }
 
 /// Plants the first few: "MZ", the NE header's place, "NE", an alignment shift,
-/// no tables but that of the segments, and a short one of those.
+/// no tables but that of the segments, a short one of those, and a short entry
+/// table.
 fn plant(bytes: &mut [u8], planted: usize, random: &mut Random) {
     let room = bytes.len().saturating_sub(128);
     let place = 64 + random.below(room.min(1_000) + 1);
     let shift = random.below(17) as u8;
     let count = random.below(4) as u8;
     let table = random.below(bytes.len().clamp(1, 256)) as u8;
+    let entries = entry_table(random);
+    let size = entries.len() as u16;
+    let entries_at = random.below(room.clamp(1, 256));
     let steps: [&[(usize, &[u8])]; PLANTS] = [
         &[(0, b"MZ")],
         &[(0x3C, &(place as u32).to_le_bytes())],
@@ -47,10 +53,27 @@ fn plant(bytes: &mut [u8], planted: usize, random: &mut Random) {
         &[(place + 0x32, &[shift, 0])],
         &[(place + 0x06, &[0, 0]), (place + 0x1E, &[0, 0, 0, 0])],
         &[(place + 0x1C, &[count, 0]), (place + 0x22, &[table, 0])],
+        &[
+            (place + 0x04, &[entries_at as u8, 0]),
+            (place + 0x06, &size.to_le_bytes()),
+            (place + entries_at, &entries),
+        ],
     ];
     for (at, held) in steps.iter().take(planted).copied().flatten() {
         put(bytes, *at, held);
     }
+}
+
+/// A few bytes, now and then behind about as many null ordinals as there may be.
+fn entry_table(random: &mut Random) -> Vec<u8> {
+    let nulls = match random.below(8) {
+        0 => random.between(256, 257),
+        _ => 0,
+    };
+    let mut table = [255, 0].repeat(nulls);
+    let more = random.below(20);
+    table.extend((0..more).map(|_| random.pick(&ENTRY_BYTES)));
+    table
 }
 
 /// What doesn't fit is left out.
