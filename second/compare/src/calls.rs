@@ -3,7 +3,7 @@
 //! A call has a file of its own and one line in [`all`].
 
 mod by_number;
-mod numbers;
+pub mod numbers;
 mod ordinal;
 mod segment;
 

@@ -63,7 +63,7 @@ pub fn bundles(image: &[u8]) -> Vec<Bundle> {
 }
 
 /// The entry table, or the part of it that lies in the image.
-fn entry_table(image: &[u8]) -> Option<&[u8]> {
+pub fn entry_table(image: &[u8]) -> Option<&[u8]> {
     let place = header_at(image)?.checked_add(ne_word(image, 0x04)? as usize)?;
     let behind = image.get(place..)?;
     let size = ne_word(image, 0x06)? as usize;

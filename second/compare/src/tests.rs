@@ -3,6 +3,7 @@
 mod cases;
 mod edges;
 mod library;
+mod numbers;
 mod options;
 mod reports;
 mod seen;

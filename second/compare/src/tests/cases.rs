@@ -1,6 +1,7 @@
 //! The generated cases.
 
-use super::wrong::{call, rare_start, right, WRONG};
+use super::wrong;
+use super::wrong::segment::{call, rare_start, right};
 use crate::calls::Call;
 use crate::group;
 use crate::inputs::{Kind, KINDS};
@@ -14,27 +15,36 @@ fn compare(kind: Kind, call: &dyn Call, options: &Options) -> Tally {
 
 fn options() -> Options {
     Options {
-        cases: 160_000,
+        cases: 40_000,
         ..Options::default()
     }
 }
 
 #[test]
-fn the_right_one_has_no_differences() {
-    for kind in KINDS {
-        let tally = compare(kind, &call(right), &options());
-        assert_eq!((tally.passed(), tally.failed()), (1, 0), "{kind:?}");
+fn the_right_ones_have_no_differences() {
+    for (name, call) in wrong::right() {
+        for kind in KINDS {
+            let tally = compare(kind, call.as_ref(), &options());
+            assert_eq!((tally.passed(), tally.failed()), (1, 0), "{name} {kind:?}");
+        }
     }
 }
 
+/// The slowest last.
+const SEARCHED: [Kind; 5] = [
+    Kind::Sound,
+    Kind::Damaged,
+    Kind::RandomBytes,
+    Kind::Special,
+    Kind::Systematic,
+];
+
 #[test]
 fn every_wrong_one_is_found() {
-    for (name, library) in WRONG {
-        let found = KINDS.into_iter().filter(|kind| {
-            let tally = compare(*kind, &call(library), &options());
-            tally.failed() == 1
-        });
-        assert!(found.count() > 0, "{name}");
+    let rarely = wrong::rarely().into_iter();
+    for (name, call) in rarely.chain(wrong::at_an_edge()) {
+        let differs = |kind| compare(kind, call.as_ref(), &options()).failed() == 1;
+        assert!(SEARCHED.into_iter().any(differs), "{name}");
     }
 }
 

@@ -1,23 +1,28 @@
 //! The edges written out by hand.
 
-use super::wrong::{call, rare_start, right, WRONG};
-use crate::calls::Call;
+use super::wrong;
 
 #[test]
-fn the_right_one_meets_them() {
-    let tally = call(right).edges();
-    assert!(tally.passed() > 300);
-    assert_eq!(tally.failed(), 0);
+fn the_right_ones_meet_them() {
+    for (name, call) in wrong::right() {
+        let tally = call.edges();
+        assert!(tally.passed() > 300, "{name}");
+        assert_eq!(tally.failed(), 0, "{name}");
+    }
 }
 
 #[test]
 fn the_wrong_ones_fail_some() {
-    // What is wrong in a rare case only is for the generated cases to find.
-    let not_rare = WRONG.iter().filter(|(name, _)| *name != "rare start");
-    for (name, library) in not_rare {
-        let tally = call(*library).edges();
+    for (name, call) in wrong::at_an_edge() {
+        let tally = call.edges();
         assert!(tally.failed() > 0, "{name}");
         assert!(tally.line(name).starts_with("FAILED"));
     }
-    assert_eq!(call(rare_start).edges().failed(), 0);
+}
+
+#[test]
+fn those_that_are_rarely_wrong_meet_them() {
+    for (name, call) in wrong::rarely() {
+        assert_eq!(call.edges().failed(), 0, "{name}");
+    }
 }

@@ -1,6 +1,7 @@
 //! The command line, what it runs, and the last line.
 
-use super::wrong::{call, refusing, right};
+use super::wrong::ordinal;
+use super::wrong::segment::{call, refusing, right};
 use crate::calls::Call;
 use crate::options::Options;
 use crate::run;
@@ -55,10 +56,13 @@ fn the_last_line() {
 
 /// How many checks a run with these options makes, and how many fail.
 fn run(library: Box<dyn Call>, line: &str) -> (u32, u32) {
-    let calls = [library];
+    run_all(&[library], line)
+}
+
+fn run_all(calls: &[Box<dyn Call>], line: &str) -> (u32, u32) {
     let words = line.split_whitespace().map(str::to_string);
-    let options = Options::parse(words, &run::names(&calls)).expect("sound options");
-    let tally = run::run(&calls, &options);
+    let options = Options::parse(words, &run::names(calls)).expect("sound options");
+    let tally = run::run(calls, &options);
     (tally.passed(), tally.failed())
 }
 
@@ -71,6 +75,18 @@ fn a_part_is_run_alone() {
     let (edges, _) = run(right(), "--only edges");
     let (all, _) = run(right(), "--only ne_segment --cases 800");
     assert_eq!(all, edges + 5);
+}
+
+#[test]
+fn a_call_is_run_alone() {
+    let segment = || Box::new(call(right));
+    let ordinal = || Box::new(ordinal::call(ordinal::right));
+    let both: [Box<dyn Call>; 2] = [segment(), ordinal()];
+    assert_eq!(run_all(&both, "--only-case 5"), (10, 0));
+    assert_eq!(run_all(&both, "--only ne_ordinal --only-case 5"), (5, 0));
+    let edges = |calls: &[Box<dyn Call>]| run_all(calls, "--only edges").0;
+    let alone = edges(&[segment()]) + edges(&[ordinal()]);
+    assert_eq!(edges(&both), alone);
 }
 
 #[test]

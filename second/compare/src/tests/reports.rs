@@ -1,6 +1,6 @@
 //! The report of a difference.
 
-use super::wrong::{call, rare_start, right, unclean};
+use super::wrong::segment::{call, rare_start, right, unclean};
 use crate::calls::{Call, SegmentCall, REQUESTS};
 use crate::difference::{Difference, Place};
 use crate::inputs::{Input, Kind};

@@ -1,6 +1,7 @@
 //! The answers that must be reached.
 
-use super::wrong::{call, right};
+use super::wrong::ordinal;
+use super::wrong::segment::{call, right};
 use crate::calls::{Call, SegmentCall};
 use crate::seen::Seen;
 
@@ -57,4 +58,24 @@ fn the_table_has_every_answer() {
     assert_eq!(rows[4], ["refusal", "3", "2"]);
     assert_eq!(rows[12], ["refusal", "11", "0"]);
     assert_eq!(segment().answers().len(), 12);
+}
+
+#[test]
+fn an_answer_that_a_call_cannot_give_has_no_number() {
+    let ordinal = ordinal::call(ordinal::right);
+    let mut seen = without(None);
+    seen.note("ne_ordinal", 15);
+    let table = seen.table(&[&segment(), &ordinal]);
+    let row = |start: &str| {
+        let mut rows = table.lines().map(|row| row.split_whitespace());
+        let found = rows.find(|row| row.clone().take(2).eq(start.split(' ')));
+        found.map(|row| row.skip(2).collect::<Vec<&str>>())
+    };
+    assert_eq!(row("refusal 8"), Some(vec!["1", "-"]));
+    assert_eq!(row("refusal 7"), Some(vec!["1", "0"]));
+    assert_eq!(row("refusal 15"), Some(vec!["-", "1"]));
+    assert_eq!(row("refusal 16"), None);
+    // The segment's 12 answers and one of the ordinal's were seen.
+    let tally = seen.check(&[&segment(), &ordinal]);
+    assert_eq!((tally.passed(), tally.failed()), (13, 11));
 }

@@ -1,97 +1,42 @@
-//! Segment queries that are wrong in one respect, to be found out.
+//! Queries that are wrong in one respect, to be found out.
 
-use crate::calls::SegmentCall;
-use crate::library::SegmentResult;
-use reference::Segment;
+pub mod ordinal;
+pub mod segment;
+mod walk;
 
-/// The right one, for the others to spoil.
-pub fn right(image: &[u8], number: u32) -> SegmentResult {
-    match reference::segment(image, number) {
-        Err(refusal) => refused(refusal),
-        Ok(Segment {
-            start,
-            stored,
-            flags,
-            allocation,
-            records,
-        }) => SegmentResult {
-            refusal: 0,
-            start,
-            stored,
-            flags,
-            allocation,
-            records,
-        },
-    }
+use crate::calls::Call;
+
+/// A call with a name for what is wrong in it.
+pub type Named = (&'static str, Box<dyn Call>);
+
+/// The right ones.
+pub fn right() -> Vec<Named> {
+    vec![
+        ("segment", Box::new(segment::call(segment::right))),
+        ("ordinal", Box::new(ordinal::call(ordinal::right))),
+        // The others of its kind are right but for their fault.
+        (
+            "ordinal, by a walk",
+            Box::new(ordinal::call(ordinal::walked)),
+        ),
+    ]
 }
 
-pub fn refused(refusal: u32) -> SegmentResult {
-    SegmentResult {
-        refusal,
-        start: 0,
-        stored: 0,
-        flags: 0,
-        allocation: 0,
-        records: 0,
-    }
+/// Wrong at an edge that is written out by hand.
+pub fn at_an_edge() -> Vec<Named> {
+    let segments = segment::WRONG.map(|(name, query)| named(name, segment::call(query)));
+    let ordinals = ordinal::WRONG.map(|(name, query)| named(name, ordinal::call(query)));
+    segments.into_iter().chain(ordinals).collect()
 }
 
-/// The start is one more where four records follow an odd number of bytes.
-pub fn rare_start(image: &[u8], number: u32) -> SegmentResult {
-    let mut result = right(image, number);
-    if result.records == 4 && result.stored % 2 == 1 {
-        result.start += 1;
-    }
-    result
+/// Wrong in a rare case only, which is for the generated cases to find.
+pub fn rarely() -> Vec<Named> {
+    vec![
+        named("rare start", segment::call(segment::rare_start)),
+        named("rare offset", ordinal::call(ordinal::rare_offset)),
+    ]
 }
 
-/// Refusals 9 and 11 change places.
-pub fn exchanged(image: &[u8], number: u32) -> SegmentResult {
-    match right(image, number) {
-        SegmentResult { refusal: 9, .. } => refused(11),
-        SegmentResult { refusal: 11, .. } => refused(9),
-        result => result,
-    }
-}
-
-/// Refusal 8 leaves a value behind.
-pub fn unclean(image: &[u8], number: u32) -> SegmentResult {
-    let mut result = right(image, number);
-    if result.refusal == 8 {
-        result.records = 1;
-    }
-    result
-}
-
-/// Only the number's low word is looked at.
-pub fn low_word(image: &[u8], number: u32) -> SegmentResult {
-    right(image, number & 0xFFFF)
-}
-
-/// The image may be one byte longer.
-pub fn longer(image: &[u8], number: u32) -> SegmentResult {
-    match image.len() {
-        16_777_217 => right(&image[..16_777_216], number),
-        _ => right(image, number),
-    }
-}
-
-/// All images are refused.
-pub fn refusing(_: &[u8], _: u32) -> SegmentResult {
-    refused(1)
-}
-
-type Query = fn(&[u8], u32) -> SegmentResult;
-
-pub const WRONG: [(&str, Query); 6] = [
-    ("rare start", rare_start),
-    ("exchanged", exchanged),
-    ("unclean", unclean),
-    ("low word", low_word),
-    ("longer", longer),
-    ("refusing", refusing),
-];
-
-pub fn call(library: Query) -> SegmentCall {
-    SegmentCall { library }
+fn named(name: &'static str, call: impl Call + 'static) -> Named {
+    (name, Box::new(call))
 }
