@@ -23,6 +23,18 @@ pub fn hexdump(bytes: &[u8]) -> String {
     text
 }
 
+/// The dump's lines. Of more than `most` only the first ones and the length.
+pub fn hexdump_lines(bytes: &[u8], most: usize) -> Vec<String> {
+    let mut lines: Vec<String> = hexdump(bytes).lines().map(str::to_string).collect();
+    if lines.len() > most {
+        let length = lines.pop();
+        lines.truncate(most);
+        lines.push("and so on".to_string());
+        lines.extend(length);
+    }
+    lines
+}
+
 fn end_zeros(text: &mut String, from: &mut Option<usize>, to: usize) {
     if let Some(from) = from.take() {
         let _ = writeln!(text, "{from:08X}  zeros up to {to:08X}");

@@ -22,7 +22,7 @@ pub use assemble::{assemble, Image, Unfit};
 pub use damage::{damage, Change, Damaged};
 pub use description::Description;
 pub use generate::{generate, generate_from, Case};
-pub use hexdump::hexdump;
+pub use hexdump::{hexdump, hexdump_lines};
 pub use layout::{Field, FieldKind, Layout, Table, TableKind};
 pub use random::Random;
 pub use shrink::shrink;

@@ -15,9 +15,9 @@ use crate::answer::Answer;
 use crate::difference::{Answers, Difference};
 use crate::inputs::Input;
 use crate::seen::Seen;
-use crate::tally::Tally;
 use builder::Random;
 use std::fmt::Debug;
+use tally::Tally;
 
 /// How many requests each call makes of one image.
 pub const REQUESTS: u64 = 8;

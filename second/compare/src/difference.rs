@@ -1,11 +1,11 @@
 //! A request that the two programs answer differently, and its report.
 
-use builder::hexdump;
+use builder::hexdump_lines;
 use builder::shrink::{shrink, USUAL_CALLS};
 use std::fmt;
 
-/// Rows of a dump that are printed at most.
-const ROWS: usize = 400;
+/// Lines of a dump that are printed at most.
+const LINES: usize = 400;
 
 /// Both answers, as they are printed.
 #[derive(Clone, Debug, PartialEq, Eq)]
@@ -51,7 +51,8 @@ impl Difference {
         let mut lines = vec![place.to_string(), format!("  request: {}", self.request)];
         lines.extend(self.answers(image));
         lines.push("  shortened, the image is".to_string());
-        lines.extend(dump(&short));
+        let dump = hexdump_lines(&short, LINES);
+        lines.extend(dump.iter().map(|line| format!("    {line}")));
         lines.push("  and on it".to_string());
         lines.extend(self.answers(&short));
         lines.join("\n")
@@ -71,17 +72,4 @@ impl Difference {
             None => vec!["  the answers are equal when asked again".to_string()],
         }
     }
-}
-
-/// The dump's rows; those of an image that stayed long are left out.
-fn dump(bytes: &[u8]) -> Vec<String> {
-    let text = hexdump(bytes);
-    let mut rows: Vec<String> = text.lines().map(|row| format!("    {row}")).collect();
-    if rows.len() > ROWS {
-        let last = rows.pop();
-        rows.truncate(ROWS);
-        rows.push("    and so on".to_string());
-        rows.extend(last);
-    }
-    rows
 }

@@ -11,8 +11,8 @@ pub mod ordinal;
 pub mod segment;
 
 use crate::answer::Answer;
-use crate::tally::Tally;
 use std::fmt::Debug;
+use tally::Tally;
 
 /// Numbers from the greatest word on, some with low words 0 and 1.
 const GREAT: [u32; 7] = [

@@ -6,9 +6,9 @@ use crate::inputs::{Input, Kind};
 use crate::options::Options;
 use crate::seen::Seen;
 use crate::streams::{number_of, stream};
-use crate::tally::Tally;
 use std::ops::Range;
 use std::panic::{catch_unwind, AssertUnwindSafe};
+use tally::Tally;
 
 /// Differences of one call that are printed; the others are only counted.
 const PRINTED: u64 = 3;

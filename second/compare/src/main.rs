@@ -20,7 +20,6 @@ mod run;
 mod seen;
 mod stated;
 mod streams;
-mod tally;
 #[cfg(test)]
 mod tests;
 

@@ -5,7 +5,7 @@ use crate::group;
 use crate::inputs::{Kind, KINDS};
 use crate::options::Options;
 use crate::seen::Seen;
-use crate::tally::Tally;
+use tally::Tally;
 
 const EDGES: &str = "edges";
 

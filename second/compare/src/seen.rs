@@ -1,8 +1,8 @@
 //! How often each answer was seen, call by call.
 
 use crate::calls::Call;
-use crate::tally::Tally;
 use std::collections::{BTreeMap, BTreeSet};
+use tally::Tally;
 
 /// Counts by call and answer; 0 is acceptance. Only answers that both programs
 /// gave alike are here.

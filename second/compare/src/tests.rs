@@ -3,6 +3,7 @@
 mod cases;
 mod edges;
 mod library;
+mod noticed;
 mod numbers;
 mod options;
 mod reports;

@@ -7,9 +7,9 @@ use crate::difference::Difference;
 use crate::edges::judge::{self, Edges};
 use crate::inputs::Input;
 use crate::seen::Seen;
-use crate::tally::Tally;
 use builder::Random;
 use std::fmt::Debug;
+use tally::Tally;
 
 /// What sets such a query apart; [`Call`] follows from it.
 pub trait ByNumber: Copy + 'static {

@@ -4,7 +4,7 @@ use super::demand;
 use super::minimal::Minimal;
 use crate::answer::Answer;
 use crate::calls::ByNumber;
-use crate::tally::Tally;
+use tally::Tally;
 
 /// Edges with their subject.
 pub type Edges<Query> = (&'static str, fn(&mut Judge<Query>));

@@ -93,8 +93,9 @@ fn ended(bundles: &[&[u8]]) -> Vec<u8> {
 /// Bundles with so many null ordinals in all.
 fn nulls(count: usize) -> Vec<u8> {
     let mut bundles = [255, 0].repeat(count / 255);
-    if count % 255 != 0 {
-        bundles.extend([(count % 255) as u8, 0]);
+    let rest = (count % 255) as u8;
+    if rest > 0 {
+        bundles.extend([rest, 0]);
     }
     bundles
 }

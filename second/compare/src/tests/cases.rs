@@ -1,5 +1,6 @@
 //! The generated cases.
 
+use super::noticed::Noticed;
 use super::wrong;
 use super::wrong::segment::{call, rare_start, right};
 use crate::calls::Call;
@@ -7,7 +8,7 @@ use crate::group;
 use crate::inputs::{Kind, KINDS};
 use crate::options::Options;
 use crate::seen::Seen;
-use crate::tally::Tally;
+use tally::Tally;
 
 fn compare(kind: Kind, call: &dyn Call, options: &Options) -> Tally {
     group::compare(kind, &[call], options, &mut Seen::default())
@@ -30,22 +31,18 @@ fn the_right_ones_have_no_differences() {
     }
 }
 
-/// The slowest last.
-const SEARCHED: [Kind; 5] = [
-    Kind::Sound,
-    Kind::Damaged,
-    Kind::RandomBytes,
-    Kind::Special,
-    Kind::Systematic,
-];
-
 #[test]
 fn every_wrong_one_is_found() {
-    let rarely = wrong::rarely().into_iter();
-    for (name, call) in rarely.chain(wrong::at_an_edge()) {
-        let differs = |kind| compare(kind, call.as_ref(), &options()).failed() == 1;
-        assert!(SEARCHED.into_iter().any(differs), "{name}");
+    let all = wrong::rarely().into_iter().chain(wrong::at_an_edge());
+    let mut hidden: Vec<_> = all.map(|(name, call)| (name, Noticed::new(call))).collect();
+    // The images of a kind are made once for all calls that are still hidden.
+    for kind in [Kind::Sound, Kind::Damaged, Kind::RandomBytes, Kind::Special] {
+        let calls: Vec<&dyn Call> = hidden.iter().map(|(_, call)| call as &dyn Call).collect();
+        group::compare(kind, &calls, &options(), &mut Seen::default());
+        hidden.retain(|(_, call)| !call.differed());
     }
+    let names: Vec<&str> = hidden.iter().map(|(name, _)| *name).collect();
+    assert!(names.is_empty(), "{names:?}");
 }
 
 #[test]

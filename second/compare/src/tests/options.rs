@@ -5,7 +5,7 @@ use super::wrong::segment::{call, refusing, right};
 use crate::calls::Call;
 use crate::options::Options;
 use crate::run;
-use crate::tally::Tally;
+use tally::Tally;
 
 fn parse(line: &str) -> Result<Options, String> {
     let words = line.split_whitespace().map(str::to_string);

@@ -1,5 +1,7 @@
 //! How many checks passed and failed.
 
+#![forbid(unsafe_code)]
+
 #[derive(Clone, Copy, Debug, Default, PartialEq, Eq)]
 pub struct Tally {
     passed: u32,
@@ -19,7 +21,6 @@ impl Tally {
         self.failed += other.failed;
     }
 
-    #[cfg(test)]
     pub fn passed(&self) -> u32 {
         self.passed
     }

@@ -1,0 +1,55 @@
+//! A call that remembers whether it ever differed.
+
+use crate::calls::Call;
+use crate::difference::Difference;
+use crate::inputs::Input;
+use crate::seen::Seen;
+use builder::Random;
+use std::cell::Cell;
+use tally::Tally;
+
+pub struct Noticed {
+    call: Box<dyn Call>,
+    differed: Cell<bool>,
+}
+
+impl Noticed {
+    pub fn new(call: Box<dyn Call>) -> Self {
+        Noticed {
+            call,
+            differed: Cell::new(false),
+        }
+    }
+
+    pub fn differed(&self) -> bool {
+        self.differed.get()
+    }
+}
+
+impl Call for Noticed {
+    fn name(&self) -> &'static str {
+        self.call.name()
+    }
+
+    fn answers(&self) -> &'static [u32] {
+        self.call.answers()
+    }
+
+    fn edges(&self) -> Tally {
+        self.call.edges()
+    }
+
+    fn compare(
+        &self,
+        input: &Input,
+        request: u64,
+        random: &mut Random,
+        seen: &mut Seen,
+    ) -> Result<(), Difference> {
+        let compared = self.call.compare(input, request, random, seen);
+        if compared.is_err() {
+            self.differed.set(true);
+        }
+        compared
+    }
+}
