@@ -1,0 +1,7 @@
+//! That the comparison can fail, and fails well.
+
+mod longest;
+mod program;
+mod reports;
+mod seen;
+mod wrong;
