@@ -22,6 +22,10 @@
  *      9  the segment's stored bytes or its record list leave the image, or it has records and no stored bytes
  *     10  the segment is iterated
  *     11  the segment's allocation is under its stored length
+ *     12  the entry table ends inside a bundle or has no end byte
+ *     13  an entry's segment is not in the segment table, or a movable entry has no CDh 3Fh
+ *     14  the entry table has over 65,535 ordinals
+ *     15  the ordinal asked for is not covered by the entry table, or is null
  */
 #ifndef NE_H
 #define NE_H
@@ -45,6 +49,20 @@ struct ne_segment_result {
 
 /* The segment of a number, counted from 1. Refusals: 1 to 7, then 8, 10, 11, 9. */
 struct ne_segment_result ne_segment(const uint8_t *image, size_t image_len, uint32_t number);
+
+/* One entry of the entry table. */
+struct ne_ordinal_result {
+    uint32_t refusal;
+    uint32_t segment; /* the segment's number, 1 to 255 */
+    uint32_t offset;  /* the place in the segment, 0 to 65,535 */
+    uint32_t flag;    /* the entry's flag byte */
+};
+
+/*
+ * The entry of an ordinal, counted from 1. Refusals: 1 to 7, then 12 to 14 for the whole entry table, whatever the number
+ * is, then 15.
+ */
+struct ne_ordinal_result ne_ordinal(const uint8_t *image, size_t image_len, uint32_t number);
 
 #ifdef __cplusplus
 }
