@@ -39,7 +39,9 @@ fn length(random: &mut Random) -> usize {
 /// table.
 fn plant(bytes: &mut [u8], planted: usize, random: &mut Random) {
     let room = bytes.len().saturating_sub(128);
-    let place = 64 + random.below(room.min(1_000) + 1);
+    // Often near the start, so that there is room for tables behind it.
+    let farthest = random.pick(&[9, 1_000]);
+    let place = 64 + random.below(room.min(farthest) + 1);
     let shift = random.below(17) as u8;
     let count = random.below(4) as u8;
     let table = random.below(bytes.len().clamp(1, 256)) as u8;
@@ -66,12 +68,11 @@ fn plant(bytes: &mut [u8], planted: usize, random: &mut Random) {
 
 /// A few bytes, now and then behind about as many null ordinals as there may be.
 fn entry_table(random: &mut Random) -> Vec<u8> {
-    let nulls = match random.below(8) {
-        0 => random.between(256, 257),
-        _ => 0,
+    let (nulls, more) = match random.below(5) {
+        0 => (random.between(256, 257), random.below(6)),
+        _ => (0, random.below(20)),
     };
     let mut table = [255, 0].repeat(nulls);
-    let more = random.below(20);
     table.extend((0..more).map(|_| random.pick(&ENTRY_BYTES)));
     table
 }
