@@ -21,9 +21,17 @@ pub fn of_listing(written: &Written, expected: &[u8]) -> Vec<String> {
         lines.push(format!("  reference: {wanted}"));
     }
     if !errors.is_empty() {
-        lines.push(format!("  standard error: {}", quoted(Some(errors))));
+        lines.push(format!("  standard error: {}", quoted(errors)));
     }
     lines
+}
+
+/// What was written, where nothing was to be listed.
+pub fn of_written(written: &Written) -> [String; 2] {
+    [
+        format!("  standard output: {}", quoted(&written.output)),
+        format!("  standard error: {}", quoted(&written.errors)),
+    ]
 }
 
 /// The number of the line, from 1, and both lines.
@@ -34,17 +42,20 @@ fn first_differing_line(output: &[u8], expected: &[u8]) -> (usize, String, Strin
     loop {
         match (program.next(), reference.next()) {
             (Some(one), Some(other)) if one == other => place += 1,
-            (one, other) => return (place, quoted(one), quoted(other)),
+            (one, other) => return (place, line(one), line(other)),
         }
     }
 }
 
+fn line(bytes: Option<&[u8]>) -> String {
+    bytes.map_or("nothing".to_string(), quoted)
+}
+
 /// The bytes as text, or the first hundred of them.
-fn quoted(bytes: Option<&[u8]>) -> String {
-    match bytes {
-        None => "nothing".to_string(),
-        Some(bytes) if bytes.len() > 100 => quoted(Some(&bytes[..100])) + " and so on",
-        Some(bytes) => format!("{:?}", String::from_utf8_lossy(bytes)),
+fn quoted(bytes: &[u8]) -> String {
+    match bytes.len() {
+        0..=100 => format!("{:?}", String::from_utf8_lossy(bytes)),
+        _ => quoted(&bytes[..100]) + " and so on",
     }
 }
 

@@ -2,6 +2,7 @@
 //! output.
 
 use crate::by_hand;
+use crate::difference::of_written;
 use crate::folder::Folder;
 use crate::program::{Given, Lists, Written};
 use std::fs::{self, File, Permissions};
@@ -37,7 +38,7 @@ fn is_one_line(program: &dyn Lists, name: &str, file: &Path) -> io::Result<bool>
     let newlines = errors.iter().filter(|byte| **byte == b'\n').count();
     let held = output.is_empty() && newlines == 1 && errors.ends_with(b"\n");
     if !held {
-        println!("FAILED: {name}: {written:?}");
+        println!("FAILED: {name}\n{}", of_written(&written).join("\n"));
     }
     Ok(held)
 }

@@ -14,7 +14,7 @@ const EXTREMES: [u32; 8] = [
     0xFFFF_FFFF,
 ];
 
-/// What an image has to ask for.
+/// The numbers of an image that are worth asking for.
 pub struct Worth {
     /// The last number that it states; 0 if there is none.
     pub last: u32,

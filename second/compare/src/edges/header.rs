@@ -11,8 +11,8 @@ use super::judge::{Edges, Judge};
 use super::minimal::Minimal;
 use crate::calls::ByNumber;
 
-/// A query by number with images to change one thing in.
-pub trait Changed: ByNumber {
+/// What these edges need of a query by number: images to change one thing in.
+pub trait HeaderEdges: ByNumber {
     /// 144 bytes: the NE header at 64 with shift 0, one segment's record at
     /// 128, and 8 bytes that the query needs at 136. There are no modules and
     /// no nonresident names.
@@ -35,7 +35,7 @@ pub trait Changed: ByNumber {
     const WITHOUT_TABLES: u32;
 }
 
-pub fn by_subject<Query: Changed>() -> Vec<Edges<Query>> {
+pub fn by_subject<Query: HeaderEdges>() -> Vec<Edges<Query>> {
     vec![
         ("image (1 to 3)", image::edges),
         ("NE header (4, 5)", place::edges),
@@ -46,7 +46,7 @@ pub fn by_subject<Query: Changed>() -> Vec<Edges<Query>> {
     ]
 }
 
-impl<Query: Changed> Judge<Query> {
+impl<Query: HeaderEdges> Judge<Query> {
     /// Number 1 is answered as on the plain image.
     fn accepts_plain(&mut self, name: &str, image: &Minimal) {
         self.accepts(name, image, 1, Query::PLAIN);

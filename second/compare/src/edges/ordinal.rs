@@ -9,7 +9,7 @@ mod segments;
 mod tables;
 mod untested;
 
-use super::header::{self, Changed};
+use super::header::{self, HeaderEdges};
 use super::judge::{self, Edges};
 use super::minimal::Minimal;
 use super::GREAT;
@@ -31,7 +31,7 @@ pub fn by_subject() -> Vec<Edges<OrdinalCall>> {
     header::by_subject().into_iter().chain(own).collect()
 }
 
-impl Changed for OrdinalCall {
+impl HeaderEdges for OrdinalCall {
     /// The 8 bytes are the entry table.
     fn plain() -> Minimal {
         plain()

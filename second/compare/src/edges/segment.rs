@@ -9,7 +9,7 @@ mod stored;
 mod tables;
 mod untested;
 
-use super::header::{self, Changed};
+use super::header::{self, HeaderEdges};
 use super::judge::{self, Edges};
 use super::minimal::Minimal;
 use super::GREAT;
@@ -31,7 +31,7 @@ pub fn by_subject() -> Vec<Edges<SegmentCall>> {
     header::by_subject().into_iter().chain(own).collect()
 }
 
-impl Changed for SegmentCall {
+impl HeaderEdges for SegmentCall {
     /// The 8 bytes are those stored.
     fn plain() -> Minimal {
         plain()

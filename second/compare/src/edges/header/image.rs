@@ -1,14 +1,14 @@
 //! Refusals 1, 2 and 3: the image's length and "MZ".
 
-use super::{Changed, Judge, Minimal};
+use super::{HeaderEdges, Judge, Minimal};
 
-pub fn edges<Query: Changed>(judge: &mut Judge<Query>) {
+pub fn edges<Query: HeaderEdges>(judge: &mut Judge<Query>) {
     short(judge);
     long(judge);
     signature(judge);
 }
 
-fn short<Query: Changed>(judge: &mut Judge<Query>) {
+fn short<Query: HeaderEdges>(judge: &mut Judge<Query>) {
     judge.refuses_nothing_at("0 bytes at a null pointer", 0, 1);
     judge.refuses_nothing_at("0 bytes at address 1", 1, 1);
     judge.refuses_nothing_at("0 bytes at the last address", usize::MAX, 1);
@@ -20,7 +20,7 @@ fn short<Query: Changed>(judge: &mut Judge<Query>) {
     judge.refuses("64 bytes", &cut(64), 1, 4);
 }
 
-fn long<Query: Changed>(judge: &mut Judge<Query>) {
+fn long<Query: HeaderEdges>(judge: &mut Judge<Query>) {
     let long = |length| Query::plain().length(length);
     judge.accepts_plain("16,777,215 bytes", &long(16_777_215));
     judge.accepts_plain("16,777,216 bytes", &long(16_777_216));
@@ -28,7 +28,7 @@ fn long<Query: Changed>(judge: &mut Judge<Query>) {
     judge.refuses("33,554,432 bytes", &long(33_554_432), 1, 2);
 }
 
-fn signature<Query: Changed>(judge: &mut Judge<Query>) {
+fn signature<Query: HeaderEdges>(judge: &mut Judge<Query>) {
     let with = |bytes| Query::plain().put(0, bytes);
     judge.accepts_plain("MZ", &Query::plain());
     judge.refuses("ZM", &with(b"ZM"), 1, 3);

@@ -1,14 +1,14 @@
 //! Two checks that fail at once: the earlier one decides.
 
-use super::{Changed, Judge, Minimal};
+use super::{HeaderEdges, Judge, Minimal};
 
-pub fn edges<Query: Changed>(judge: &mut Judge<Query>) {
+pub fn edges<Query: HeaderEdges>(judge: &mut Judge<Query>) {
     image_and_header(judge);
     tables(judge);
     before_the_rest(judge);
 }
 
-fn image_and_header<Query: Changed>(judge: &mut Judge<Query>) {
+fn image_and_header<Query: HeaderEdges>(judge: &mut Judge<Query>) {
     let plain = Query::plain;
     let no_mz = || plain().put(0, b"ZM");
     judge.refuses("1 before 3", &no_mz().length(63), 1, 1);
@@ -29,7 +29,7 @@ fn image_and_header<Query: Changed>(judge: &mut Judge<Query>) {
     judge.refuses("5, number 0", &no_ne(), 0, 5);
 }
 
-fn tables<Query: Changed>(judge: &mut Judge<Query>) {
+fn tables<Query: HeaderEdges>(judge: &mut Judge<Query>) {
     let shifted = || Query::plain().ne_word(0x32, 16);
     judge.refuses("6 before 7, entries", &shifted().ne_word(0x06, 81), 1, 6);
     judge.refuses("6 before 7, segments", &shifted().ne_word(0x1C, 3), 1, 6);
@@ -43,7 +43,7 @@ fn tables<Query: Changed>(judge: &mut Judge<Query>) {
 }
 
 /// The query's own checks come last. From edge to edge one more thing is wrong.
-fn before_the_rest<Query: Changed>(judge: &mut Judge<Query>) {
+fn before_the_rest<Query: HeaderEdges>(judge: &mut Judge<Query>) {
     let long = Query::unsound().ne_word(0x1E, 41);
     judge.refuses("7 before the query's own", &long, 1, 7);
     let wrong = Query::unsound().ne_word(0x06, 0xFFFF);

@@ -1,8 +1,8 @@
 //! Refusals 4 and 5: the NE header's place and "NE".
 
-use super::{Changed, Judge, Minimal};
+use super::{HeaderEdges, Judge, Minimal};
 
-pub fn edges<Query: Changed>(judge: &mut Judge<Query>) {
+pub fn edges<Query: HeaderEdges>(judge: &mut Judge<Query>) {
     least_place(judge);
     header_ends_the_image(judge);
     great_places(judge);
@@ -10,11 +10,11 @@ pub fn edges<Query: Changed>(judge: &mut Judge<Query>) {
 }
 
 /// The plain image with another place of the NE header.
-fn placed<Query: Changed>(place: u32) -> Minimal {
+fn placed<Query: HeaderEdges>(place: u32) -> Minimal {
     Query::plain().put_dword(0x3C, place)
 }
 
-fn least_place<Query: Changed>(judge: &mut Judge<Query>) {
+fn least_place<Query: HeaderEdges>(judge: &mut Judge<Query>) {
     // The whole header stands at 63 and would be read well there.
     let at_63 = Minimal::with_header_at(64)
         .length(400)
@@ -27,7 +27,7 @@ fn least_place<Query: Changed>(judge: &mut Judge<Query>) {
     judge.refuses("place 2", &placed::<Query>(2), 1, 4);
 }
 
-fn header_ends_the_image<Query: Changed>(judge: &mut Judge<Query>) {
+fn header_ends_the_image<Query: HeaderEdges>(judge: &mut Judge<Query>) {
     judge.accepts_in_header("header ends the image", &Query::in_header(64));
     judge.refuses("header one past", &Query::in_header(64).length(127), 1, 4);
     let at_1000 = Query::in_header(1000);
@@ -41,7 +41,7 @@ fn header_ends_the_image<Query: Changed>(judge: &mut Judge<Query>) {
     judge.refuses("header one past 16,777,216 bytes", &past, 1, 4);
 }
 
-fn great_places<Query: Changed>(judge: &mut Judge<Query>) {
+fn great_places<Query: HeaderEdges>(judge: &mut Judge<Query>) {
     judge.accepts_in_header("place 10040h", &Query::in_header(0x1_0040));
     let places = [0x1_0040, 0x100_0040, 0x7FFF_FFFF, 0x8000_0000, 0x8000_0040];
     let wrapping = [0xFFFF_FFBF, 0xFFFF_FFC0, 0xFFFF_FFC1, 0xFFFF_FFFF];
@@ -55,7 +55,7 @@ fn great_places<Query: Changed>(judge: &mut Judge<Query>) {
     }
 }
 
-fn signature<Query: Changed>(judge: &mut Judge<Query>) {
+fn signature<Query: HeaderEdges>(judge: &mut Judge<Query>) {
     let with = |bytes| Query::plain().put(64, bytes);
     judge.accepts_plain("NE", &Query::plain());
     judge.refuses("EN", &with(b"EN"), 1, 5);

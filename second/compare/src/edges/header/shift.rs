@@ -1,13 +1,13 @@
 //! Refusal 6: the alignment shift.
 
-use super::{Changed, Judge, Minimal};
+use super::{HeaderEdges, Judge, Minimal};
 
-pub fn edges<Query: Changed>(judge: &mut Judge<Query>) {
+pub fn edges<Query: HeaderEdges>(judge: &mut Judge<Query>) {
     greatest(judge);
     without_tables(judge);
 }
 
-fn greatest<Query: Changed>(judge: &mut Judge<Query>) {
+fn greatest<Query: HeaderEdges>(judge: &mut Judge<Query>) {
     let shifted = |shift| Query::in_header(64).ne_word(0x32, shift);
     for shift in [0, 1, 9, 14, 15] {
         judge.accepts_in_header(&format!("shift {shift}"), &shifted(shift));
@@ -17,7 +17,7 @@ fn greatest<Query: Changed>(judge: &mut Judge<Query>) {
     }
 }
 
-fn without_tables<Query: Changed>(judge: &mut Judge<Query>) {
+fn without_tables<Query: HeaderEdges>(judge: &mut Judge<Query>) {
     let shifted = |shift| Minimal::new().ne_word(0x32, shift);
     let passed = Query::WITHOUT_TABLES;
     judge.refuses("shift 15 without segments", &shifted(15), 1, passed);

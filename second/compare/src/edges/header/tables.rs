@@ -1,8 +1,8 @@
 //! Refusal 7: the sized tables, but for the entry table's own edges.
 
-use super::{Changed, Judge};
+use super::{HeaderEdges, Judge};
 
-pub fn edges<Query: Changed>(judge: &mut Judge<Query>) {
+pub fn edges<Query: HeaderEdges>(judge: &mut Judge<Query>) {
     segment_table(judge);
     module_table(judge);
     nonresident_table(judge);
@@ -11,7 +11,7 @@ pub fn edges<Query: Changed>(judge: &mut Judge<Query>) {
 
 /// 8 bytes for each segment, from 128 on; what stands behind the first record
 /// is no matter here. The products of the longer ones pass 16 bits.
-fn segment_table<Query: Changed>(judge: &mut Judge<Query>) {
+fn segment_table<Query: HeaderEdges>(judge: &mut Judge<Query>) {
     let segments = |count| Query::plain().ne_word(0x1C, count);
     let ends = [
         (3, 152),
@@ -34,7 +34,7 @@ fn segment_table<Query: Changed>(judge: &mut Judge<Query>) {
 }
 
 /// 2 bytes for each module; places count from the NE header at 64.
-fn module_table<Query: Changed>(judge: &mut Judge<Query>) {
+fn module_table<Query: HeaderEdges>(judge: &mut Judge<Query>) {
     let modules = |count, place| {
         let image = Query::plain().ne_word(0x1E, count);
         image.ne_word(0x28, place)
@@ -53,7 +53,7 @@ fn module_table<Query: Changed>(judge: &mut Judge<Query>) {
 }
 
 /// The place counts from the file's start.
-fn nonresident_table<Query: Changed>(judge: &mut Judge<Query>) {
+fn nonresident_table<Query: HeaderEdges>(judge: &mut Judge<Query>) {
     let names = |bytes, place| {
         let image = Query::plain().ne_word(0x20, bytes);
         image.ne_dword(0x2C, place)
@@ -75,7 +75,7 @@ fn nonresident_table<Query: Changed>(judge: &mut Judge<Query>) {
 }
 
 /// A table of size 0 is empty and its place isn't looked at.
-fn size_0<Query: Changed>(judge: &mut Judge<Query>) {
+fn size_0<Query: HeaderEdges>(judge: &mut Judge<Query>) {
     let modules = Query::plain().ne_word(0x28, 0xFFFF);
     judge.accepts_plain("no modules at FFFFh", &modules);
     let names = Query::plain().ne_dword(0x2C, 0xFFFF_FFFF);

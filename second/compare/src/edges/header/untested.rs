@@ -1,8 +1,8 @@
 //! What neither a header check nor a query by number looks at.
 
-use super::{Changed, Judge};
+use super::{HeaderEdges, Judge};
 
-pub fn edges<Query: Changed>(judge: &mut Judge<Query>) {
+pub fn edges<Query: HeaderEdges>(judge: &mut Judge<Query>) {
     other_fields(judge);
     other_tables(judge);
 }
@@ -11,7 +11,7 @@ pub fn edges<Query: Changed>(judge: &mut Judge<Query>) {
 /// tables are among them.
 const UNREAD: [(usize, usize); 4] = [(0x02, 0x04), (0x08, 0x1C), (0x24, 0x32), (0x34, 0x40)];
 
-fn other_fields<Query: Changed>(judge: &mut Judge<Query>) {
+fn other_fields<Query: HeaderEdges>(judge: &mut Judge<Query>) {
     let mz = Query::plain().put(2, &[0xFF; 58]);
     judge.accepts_plain("the MZ header's other bytes FFh", &mz);
     let word = Query::plain().put_word(0x18, 0x1E);
@@ -28,7 +28,7 @@ fn other_fields<Query: Changed>(judge: &mut Judge<Query>) {
 }
 
 /// Tables without a size, and the content of those that have one.
-fn other_tables<Query: Changed>(judge: &mut Judge<Query>) {
+fn other_tables<Query: HeaderEdges>(judge: &mut Judge<Query>) {
     let outside = |offset| Query::plain().ne_word(offset, 0xFFFF);
     judge.accepts_plain("resources outside", &outside(0x24));
     judge.accepts_plain("resident names outside", &outside(0x26));

@@ -3,6 +3,7 @@
 use super::{ended, fixed, module, movable, nulls, refuses_all, Judge, Minimal};
 
 pub fn edges(judge: &mut Judge) {
+    after_7(judge);
     early_13(judge);
     entry_bytes_before_13(judge);
     between_the_two_12s(judge);
@@ -12,6 +13,29 @@ pub fn edges(judge: &mut Judge) {
 /// In a module of one segment; nothing is added to the bytes.
 fn raw(parts: &[&[u8]]) -> Minimal {
     module(1, &parts.concat())
+}
+
+/// The header's checks come before the table is walked.
+fn after_7(judge: &mut Judge) {
+    let unsound = [
+        (12, module(1, &[1])),
+        (13, module(1, &ended(&[&movable(0, 1)]))),
+        (14, module(1, &ended(&[&nulls(65_536)]))),
+    ];
+    for (own, image) in unsound {
+        judge.refuses(&format!("{own} alone"), &image, 1, own);
+        let long = image.ne_word(0x1E, 0xFFFF);
+        refuses_all(judge, &format!("7 before {own}"), &long, 7);
+        let shifted = long.ne_word(0x32, 16);
+        judge.refuses(&format!("6 before {own}"), &shifted, 0, 6);
+        let no_ne = shifted.put(64, b"NX");
+        judge.refuses(&format!("5 before {own}"), &no_ne, 1, 5);
+        let no_place = no_ne.put_dword(0x3C, 0xFFFF_FFC0);
+        judge.refuses(&format!("4 before {own}"), &no_place, 2, 4);
+        let no_mz = no_place.put(0, b"M\0");
+        judge.refuses(&format!("3 before {own}"), &no_mz, 1, 3);
+        judge.refuses(&format!("1 before {own}"), &no_mz.length(63), 1, 1);
+    }
 }
 
 /// A 13 of one bundle comes before all that is wrong behind it.

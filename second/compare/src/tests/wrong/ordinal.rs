@@ -40,7 +40,7 @@ pub fn refused(refusal: u32) -> OrdinalResult {
     }
 }
 
-/// The offset is one more in a rare entry.
+/// The offset is one less in a rare entry.
 pub fn rare_offset(image: &[u8], number: u32) -> OrdinalResult {
     let mut result = right(image, number);
     if result.segment == 3 && result.flag % 16 == 5 && result.offset > 4 {
@@ -59,7 +59,7 @@ fn exchanged(image: &[u8], number: u32) -> OrdinalResult {
 }
 
 /// Refusal 15 leaves a value behind.
-pub fn unclean(image: &[u8], number: u32) -> OrdinalResult {
+fn unclean(image: &[u8], number: u32) -> OrdinalResult {
     let mut result = right(image, number);
     if result.refusal == 15 {
         result.flag = 1;
