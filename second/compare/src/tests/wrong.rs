@@ -1,5 +1,6 @@
 //! Queries that are wrong in one respect, to be found out.
 
+mod fault;
 pub mod ordinal;
 pub mod segment;
 mod walk;

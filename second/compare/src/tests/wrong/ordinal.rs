@@ -1,6 +1,7 @@
 //! Ordinal queries that are wrong in one respect.
 
-use super::walk::{walk, Fault};
+use super::fault::Fault;
+use super::walk::walk;
 use crate::calls::OrdinalCall;
 use crate::library::OrdinalResult;
 use reference::Entry;

@@ -1,44 +1,8 @@
 //! A walk of the entry table with a fault to choose.
 
+use super::fault::{Fault, Stage};
 use crate::stated;
 use reference::Entry;
-
-/// What is wrong; everything else is right.
-#[derive(Clone, Copy, PartialEq, Eq)]
-pub enum Fault {
-    None,
-    /// Null bundles use no ordinals up.
-    NullsUseNone,
-    /// They don't count toward 14.
-    NullsDontCount,
-    CountBeforeSegmentByte,
-    CountAfterEntryBytes,
-    CountAfterSegments,
-    OneMoreOrdinal,
-    OneLessOrdinal,
-    /// Ordinals are counted in 16 bits.
-    CountWraps,
-    NoInterrupt,
-    /// Only this byte of CDh 3Fh is tested.
-    FirstInterruptByte,
-    SecondInterruptByte,
-    InterruptInFixed,
-    MovableSegment0,
-    SegmentPastTheLast,
-    NoSegment255,
-    SegmentCountInAByte,
-    /// 13 before the bytes of later entries.
-    EntryByEntry,
-    /// Only a bundle's first entry is tested.
-    FirstEntryOnly,
-    ImageIsTheLimit,
-    /// A table may do without.
-    NoEndByte,
-    /// A count of 0 ends nothing while there are more bytes.
-    BytesBehindTheEnd,
-    /// What is wrong behind the ordinal isn't seen.
-    StopsAtTheOrdinal,
-}
 
 /// The ordinal's entry.
 pub fn walk(image: &[u8], number: u32, fault: Fault) -> Result<Entry, u32> {
@@ -111,55 +75,48 @@ impl<'a> Walk<'a> {
     }
 
     fn bundle(&mut self, count: u32) -> Result<(), u32> {
-        if self.is(Fault::CountBeforeSegmentByte) {
-            self.count(count)?;
-        }
+        self.count(count, Stage::BeforeSegmentByte)?;
         let (&segment, behind) = self.rest.split_first().ok_or(12u32)?;
         self.rest = behind;
-        let late = [Fault::CountAfterEntryBytes, Fault::CountAfterSegments];
-        let counts = segment != 0 || !self.is(Fault::NullsDontCount);
-        let count_now = !late.contains(&self.fault) && !self.is(Fault::CountBeforeSegmentByte);
-        if counts && count_now {
-            self.count(count)?;
+        if segment != 0 || !self.is(Fault::NullsDontCount) {
+            self.count(count, Stage::BeforeEntryBytes)?;
         }
-        if segment == 0 {
-            if late.contains(&self.fault) {
-                self.count(count)?;
-            }
-            if !self.is(Fault::NullsUseNone) {
-                self.ordinals += count;
-            }
-            return Ok(());
+        match segment {
+            0 => self.nulls(count)?,
+            255 => self.entries(segment, count, 6)?,
+            _ => self.entries(segment, count, 3)?,
         }
-        let width = if segment == 255 { 6 } else { 3 };
+        self.count(count, Stage::AfterSegments)
+    }
+
+    /// Toward 14, if this is the stage for it.
+    fn count(&mut self, count: u32, stage: Stage) -> Result<(), u32> {
+        if stage == self.fault.stage() {
+            self.counted += count;
+        }
+        match self.counted > self.fault.most() {
+            true => Err(14),
+            false => Ok(()),
+        }
+    }
+
+    fn nulls(&mut self, count: u32) -> Result<(), u32> {
+        if !self.is(Fault::NullsUseNone) {
+            self.ordinals += count;
+        }
+        self.count(count, Stage::AfterEntryBytes)
+    }
+
+    fn entries(&mut self, segment: u8, count: u32, width: usize) -> Result<(), u32> {
         let entries = self.entry_bytes(count as usize, width)?;
-        if self.is(Fault::CountAfterEntryBytes) {
-            self.count(count)?;
-        }
+        self.count(count, Stage::AfterEntryBytes)?;
         for (index, bytes) in entries.chunks(width).enumerate() {
             let tested = index == 0 || !self.is(Fault::FirstEntryOnly);
             self.entry(segment, bytes, tested)?;
         }
-        if self.is(Fault::CountAfterSegments) {
-            self.count(count)?;
-        }
         match entries.len() == width * count as usize {
             true => Ok(()),
             false => Err(12),
-        }
-    }
-
-    fn count(&mut self, count: u32) -> Result<(), u32> {
-        self.counted += count;
-        let most = match self.fault {
-            Fault::OneMoreOrdinal => 65_536,
-            Fault::OneLessOrdinal => 65_534,
-            Fault::CountWraps => u32::MAX,
-            _ => 65_535,
-        };
-        match self.counted > most {
-            true => Err(14),
-            false => Ok(()),
         }
     }
 
