@@ -1,6 +1,6 @@
 -- Document 01, "Header rules": the MZ header and the NE header.
 use Prim.Native.Nat.{ℕ, _+_, _*_, _^_}
-use mathlib.Core.Bool.{Bool, false, cond, not}
+use mathlib.Core.Bool.{Bool, false, cond, not, _||_}
 use mathlib.Core.List.{List, [], _∷_}
 use lib.ListN.{length}
 use lib.Dec.{ltb, eqb}
@@ -69,6 +69,10 @@ headerChecks image =
 -- What the header of an image answers: the first refusal, or where everything stands.
 unfoldable pub headerOf : List ℕ → Answer
 headerOf image = decide Refused (headerChecks image) (Accepted (tablesOf image (nePlace image)))
+
+-- "number 0 or above the count": whether a table of `count` elements lacks the one of a number.
+unfoldable pub lacks : ℕ → ℕ → Bool
+lacks count number = eqb number 0 || ltb count number
 
 -- For whoever goes on from a header: its refusal, or what follows of it.
 unfoldable pub onHeader : {A : Type 0} → Answer → (Refusal → A) → (Header → A) → A

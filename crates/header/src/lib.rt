@@ -3,7 +3,7 @@ use refusal::Refusal;
 ghost use mathlib.Core.Path.{_≡_};
 ghost use Prim.Native.Nat.{_+_, _≤_, _<_, _^_};
 ghost use Rattle.checks.specs.Checks.{decide};
-ghost use Rattle.header.specs.Header.{headerOf, tableChecks, tablesOf, fieldOf, leaves};
+ghost use Rattle.header.specs.Header.{headerOf, tableChecks, tablesOf, fieldOf, leaves, lacks};
 
 // A table of `count` elements from the place `at` on, counted from the file's start.
 pub struct Table {
@@ -61,6 +61,16 @@ pub fn read(image: &[u8]) -> Answer
         return Answer::Refused(Refusal::Shift);
     }
     inside(len, tables(image, ne, shift))
+}
+
+// Whether a table of `count` elements lacks the one of a number. Numbers count from 1.
+pub fn lacks(count: u32, number: u32) -> bool
+    ensures { λ r. ⌜ r ≡ lacks count number ⌝ }
+{
+    if number == 0 {
+        return true;
+    }
+    count < number
 }
 
 // The header, where none of its sized tables leaves an image of `len` bytes.

@@ -1,7 +1,7 @@
 // The one copy and the one clear of a slice.
 ghost use mathlib.Core.Path.{_≡_};
 ghost use Prim.Native.Nat.{min};
-ghost use lib.ListN.{length};
+ghost use lib.ListN.{length, take, drop};
 ghost use Rattle.le.specs.Slice.{copied, zeros};
 
 fn lesser(a: usize, b: usize) -> usize
@@ -31,4 +31,24 @@ pub fn clear(dst: &mut [u8])
         dst[i] = 0;
         i += 1;
     }
+}
+
+// The bytes of `s` from the place `at` on: none where it lies past the end.
+pub fn from(s: &[u8], at: usize) -> &[u8]
+    ensures { λ r. ⌜ now r ≡ drop at (now (s .entry)) ⌝ }
+{
+    if at < s.len() {
+        return &s[at..];
+    }
+    &s[s.len()..]
+}
+
+// The first `n` bytes of `s`, or all where it has fewer.
+pub fn first(s: &[u8], n: usize) -> &[u8]
+    ensures { λ r. ⌜ now r ≡ take n (now (s .entry)) ⌝ }
+{
+    if n < s.len() {
+        return &s[0..n];
+    }
+    s
 }

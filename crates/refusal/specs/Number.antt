@@ -1,7 +1,7 @@
 -- Document 01, "Refusal numbers and their order": the number of each refusal.
 use Prim.Native.Nat.{ℕ}
 use Rattle.refusal.specs.declared.Refusal.{Refusal}
-use Rattle.refusal.specs.declared.Refusal.the-variants.{ImageShort, ImageLong, NoMz, NePlace, NoNe, Shift, SegmentTable, ModuleTable, EntryTable, NonresidentTable, NoSuchNumber, SegmentOutside, Iterated, AllocationShort}
+use Rattle.refusal.specs.declared.Refusal.the-variants.{ImageShort, ImageLong, NoMz, NePlace, NoNe, Shift, SegmentTable, ModuleTable, EntryTable, NonresidentTable, NoSuchNumber, SegmentOutside, Iterated, AllocationShort, EntryTableEnds, EntryUnsound, OrdinalsOver, NoSuchOrdinal}
 
 abbrev pub numberOf : Refusal → ℕ
 -- "image under 64 bytes"
@@ -29,3 +29,11 @@ numberOf SegmentOutside = 9
 numberOf Iterated = 10
 -- "allocation under stored length"
 numberOf AllocationShort = 11
+-- "entry table ends inside a bundle or has no end byte"
+numberOf EntryTableEnds = 12
+-- "entry's segment not in the table, or no CDh 3Fh"
+numberOf EntryUnsound = 13
+-- "over 65,535 ordinals"
+numberOf OrdinalsOver = 14
+-- "ordinal not covered, or null"
+numberOf NoSuchOrdinal = 15

@@ -18,6 +18,10 @@ pub enum Refusal {
     SegmentOutside,
     Iterated,
     AllocationShort,
+    EntryTableEnds,
+    EntryUnsound,
+    OrdinalsOver,
+    NoSuchOrdinal,
 }
 
 // The number of a refusal.
@@ -39,5 +43,9 @@ pub fn number(why: Refusal) -> u32
         Refusal::SegmentOutside => 9,
         Refusal::Iterated => 10,
         Refusal::AllocationShort => 11,
+        Refusal::EntryTableEnds => 12,
+        Refusal::EntryUnsound => 13,
+        Refusal::OrdinalsOver => 14,
+        Refusal::NoSuchOrdinal => 15,
     }
 }

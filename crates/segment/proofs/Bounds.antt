@@ -16,12 +16,12 @@ use Rattle.checks.specs.Checks.{decide, Passed, _⇒_}
 use Rattle.checks.proofs.Checks.{passed, answered}
 use Rattle.le.specs.Number.{byteAt, wordAt}
 use Rattle.le.proofs.Number.{number-below}
-use Rattle.header.specs.Header.{headerOf, onHeader}
+use Rattle.header.specs.Header.{headerOf, onHeader, lacks}
 use Rattle.header.specs.declared.Header.{Header}
 use Rattle.header.specs.declared.Answer as header
 use Rattle.header.specs.declared.Answer.the-variants as header-answer
 use Rattle.header.proofs.Bounds as header-bounds
-use Rattle.segment.specs.Segment.{segmentOf, recordOf, segmentAt, segmentChecks, sectorOf, recordPlace, recordsFollow, noSuchNumber}
+use Rattle.segment.specs.Segment.{segmentOf, recordOf, segmentAt, segmentChecks, sectorOf, recordPlace, recordsFollow}
 use Rattle.segment.proofs.Words.{full-below}
 use Rattle.segment.specs.InImage.{InImage}
 use Rattle.segment.specs.declared.Segment.{Segment}
@@ -85,7 +85,7 @@ accepted image number s e = go (headerOf image) refl
   where
     go : (a : header.Answer) → headerOf image ≡ a → (length image ≤ 16777216) × InImage image s
     go (header-answer.Accepted h) q =
-        let checks = (noSuchNumber (h .segments .count) number ⇒ NoSuchNumber) ∷ [] in
+        let checks = (lacks (h .segments .count) number ⇒ NoSuchNumber) ∷ [] in
         let found : decide Refused checks (recordOf image h (number - 1)) ≡ Accepted s = rw q at e in
         let is = answered Refused is-refusal (λ why. refl) checks (recordOf image h (number - 1)) (ap is-refusal found) in
         (header-bounds.accepted image h q .size, record-accepted image h (number - 1) s (sym is ∙ found))

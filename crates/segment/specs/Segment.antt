@@ -1,6 +1,6 @@
 -- Document 01, "Segment record": one record of the segment table.
 use Prim.Native.Nat.{ℕ, _+_, _*_, _-_, _/_, _%_}
-use mathlib.Core.Bool.{Bool, cond, _&&_, _||_}
+use mathlib.Core.Bool.{Bool, cond, _&&_}
 use mathlib.Core.List.{List, [], _∷_}
 use lib.ListN.{length}
 use lib.Dec.{ltb, eqb}
@@ -8,7 +8,7 @@ use Rattle.le.specs.Number.{wordAt}
 use Rattle.refusal.specs.declared.Refusal.{Refusal}
 use Rattle.refusal.specs.declared.Refusal.the-variants.{NoSuchNumber, SegmentOutside, Iterated, AllocationShort}
 use Rattle.checks.specs.Checks.{Check, _⇒_, decide}
-use Rattle.header.specs.Header.{headerOf, onHeader}
+use Rattle.header.specs.Header.{headerOf, onHeader, lacks}
 use Rattle.header.specs.declared.Header.{Header}
 use Rattle.segment.specs.declared.Segment.{Segment}
 use Rattle.segment.specs.declared.Answer.{Answer}
@@ -72,12 +72,8 @@ recordOf image h index =
     let s = segmentAt image h index in
     decide Refused (segmentChecks (length image) (sectorOf image h index) s) (Accepted s)
 
--- "8: number 0 or above the count".
-unfoldable pub noSuchNumber : ℕ → ℕ → Bool
-noSuchNumber count number = eqb number 0 || ltb count number
-
 -- What asking for a segment by its number answers: the header's refusals, 8, then the record's.
 unfoldable pub segmentOf : List ℕ → ℕ → Answer
 segmentOf image number =
     onHeader (headerOf image) Refused λ h.
-    decide Refused ((noSuchNumber (h .segments .count) number ⇒ NoSuchNumber) ∷ []) (recordOf image h (number - 1))
+    decide Refused ((lacks (h .segments .count) number ⇒ NoSuchNumber) ∷ []) (recordOf image h (number - 1))

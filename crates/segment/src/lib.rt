@@ -30,10 +30,7 @@ pub fn by_number(image: &[u8], number: u32) -> Answer
     match headers {
         header::Answer::Refused(why) => Answer::Refused(why),
         header::Answer::Accepted(h) => {
-            if number == 0 {
-                return Answer::Refused(Refusal::NoSuchNumber);
-            }
-            if h.segments.count < number {
+            if header::lacks(h.segments.count, number) {
                 return Answer::Refused(Refusal::NoSuchNumber);
             }
             record(image, h, number - 1)

@@ -1,0 +1,39 @@
+-- `entry::by_ordinal` meets its contract: the header's answer, then the table's.
+-- Assumes nothing.
+use mathlib.Core.Path.{sym, _∙_}
+use Rattle.header.specs.Header.{onHeader}
+use Rattle.entry.specs.Ordinal.{ordinalOf}
+use borrow.Author.Needs.{needs}
+use Rattle.entry.proofs.by_ordinal.Statement.{statement}
+use Rattle.entry.proofs.by_ordinal.Tie as tie
+
+read-requires : tie.Need-read-requires
+read-requires c κs = search needs
+
+enum-known-headers : tie.Need-enum-known-headers
+enum-known-headers c = search needs
+
+enum-known-headers-2 : tie.Need-enum-known-headers-2
+enum-known-headers-2 c = search needs
+
+in-table-requires : tie.Need-in-table-requires
+in-table-requires c κs = search needs
+
+returns : tie.Need-returns
+unfolding ordinalOf onHeader
+returns c = rw (sym (c .before .before .before .read .ensures) ∙ c .before .headers .given .1)
+
+returns-2 : tie.Need-returns-2
+unfolding ordinalOf onHeader
+returns-2 c = rw (sym (c .before .before .before .before .read .ensures) ∙ c .before .before .headers2 .given .1) (c .in-table .ensures)
+
+pub by-ordinal-spec : {M : Type 1} → statement M
+by-ordinal-spec =
+    tie.close
+    (tie.spec
+    read-requires
+    enum-known-headers
+    enum-known-headers-2
+    in-table-requires
+    returns
+    returns-2)

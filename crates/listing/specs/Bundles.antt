@@ -1,0 +1,30 @@
+-- The lines of a table bundle by bundle, as they are written. `proofs/ByBundle.antt` shows that they are those of the listing.
+use mathlib.Core.Bool.{Bool, true, false}
+use mathlib.Core.List.{List, [], _∷_, _++_}
+use Prim.Native.Nat.{ℕ, zero, suc, _+_}
+use lib.ListN.{drop}
+use Rattle.entry.specs.declared.Kind.{Kind}
+use Rattle.entry.specs.declared.Bundle.{Bundle}
+use Rattle.entry.specs.Bundle.{widthOf, entryOf}
+use Rattle.entry.specs.Table.{Table, Sound, Unsound}
+use Rattle.listing.specs.Listing.{answerLine}
+
+abbrev pub isSound : Table → Bool
+isSound (Sound bs) = true
+isSound (Unsound why) = false
+
+-- `count` ordinals from `number` on, whose entries stand one behind the other from the place `at` on.
+unfoldable pub slotLines : ℕ → List ℕ → Kind → ℕ → ℕ → List ℕ
+slotLines zero table kind number at = []
+slotLines (suc count) table kind number at = answerLine number (entryOf kind (drop at table)) ++ slotLines count table kind (number + 1) (at + widthOf kind)
+
+abbrev pub bundleLines : List ℕ → Bundle → List ℕ
+bundleLines table b = slotLines (b .count) table (b .kind) (b .used + 1) (b .at)
+
+unfoldable pub bundlesLines : List ℕ → List Bundle → List ℕ
+bundlesLines table [] = []
+bundlesLines table (b ∷ bs) = bundleLines table b ++ bundlesLines table bs
+
+abbrev pub tableLines : List ℕ → Table → List ℕ
+tableLines table (Sound bs) = bundlesLines table bs
+tableLines table (Unsound why) = []
