@@ -3,22 +3,18 @@
 use mathlib.Core.Path.{_≡_, refl, sym, _∙_}
 use mathlib.Core.Bool.{Bool, true, false}
 use mathlib.Core.List.{List, [], _∷_}
-use Prim.Native.Nat.{ℕ}
-use native.Mathlib.Omega.{arith}
+use Rattle.checks.proofs.Impossible.{never}
 use Rattle.checks.specs.Checks.{Check, _⇒_, decide, Passed}
 
 -- `is-refusal` tells refusals from answers.
 module _ {W A : Type 0} (refuse : W → A) (is-refusal : A → Bool) (refused : (why : W) → is-refusal (refuse why) ≡ true) where
-  never : {X : Type 0} → true ≡ false → X
-  never e = let z : _≡_ {A = ℕ} 0 1 = cc in absurd (omega arith)
-
   pub passed : (checks : List (Check W)) (a : A) → is-refusal (decide refuse checks a) ≡ false → Passed checks
   passed [] a e = tt
-  passed ((true ⇒ why) ∷ rest) a e = never (sym (refused why) ∙ e)
+  passed ((true ⇒ why) ∷ rest) a e = let z = sym (refused why) ∙ e in never cc
   passed ((false ⇒ why) ∷ rest) a e = (refl, passed rest a e)
 
   -- The answer is then the one after the last check.
   pub answered : (checks : List (Check W)) (a : A) → is-refusal (decide refuse checks a) ≡ false → decide refuse checks a ≡ a
   answered [] a e = refl
-  answered ((true ⇒ why) ∷ rest) a e = never (sym (refused why) ∙ e)
+  answered ((true ⇒ why) ∷ rest) a e = let z = sym (refused why) ∙ e in never cc
   answered ((false ⇒ why) ∷ rest) a e = answered rest a e

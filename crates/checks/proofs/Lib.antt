@@ -1,2 +1,3 @@
+pub mod Impossible
 pub mod Checks
 pub mod Tests

@@ -1,7 +1,6 @@
 pub mod Covers
-pub mod Steps
 pub mod Turns
 pub mod Walks
+pub mod Induction
 pub mod Resolves
 pub mod Examples
-pub mod Widths

@@ -5,34 +5,29 @@ use mathlib.Core.Path.{_≡_, refl, ap, sym, _∙_}
 use mathlib.Core.Logic.{_⊎_, inl, inr, _↔_}
 use mathlib.Core.Bool.{Bool, true, false}
 use mathlib.Core.List.{List, [], _∷_}
-use Prim.Native.Nat.{ℕ, zero, suc, _+_, _*_, _-_, _≤_, _<_}
+use Prim.Native.Nat.{ℕ, _+_, _*_, _-_, _≤_, _<_}
 use native.Mathlib.Omega.{arith}
-use borrow.Author.Tests.{lt-ltb, le-ltb, le-leb, lt-leb}
-use lib.Dec.{ltb, leb}
-use lib.ListN.{length, drop}
+use borrow.Author.Tests.{lt-ltb, le-ltb, le-leb}
+use lib.ListN.{drop}
+use Rattle.checks.proofs.Impossible.{never}
 use Rattle.refusal.specs.declared.Refusal.{Refusal}
 use Rattle.refusal.specs.declared.Refusal.the-variants.{NoSuchOrdinal}
 use Rattle.header.specs.Header.{headerOf, onHeader}
 use Rattle.header.specs.declared.Header.{Header}
 use Rattle.header.specs.declared.Answer.the-variants as header-answer
-use Rattle.entry.specs.declared.Kind.{Kind}
-use Rattle.entry.specs.declared.Kind.the-variants.{Null, Movable, Fixed}
-use Rattle.entry.specs.declared.Bundle.{Bundle}
+use Rattle.bundle.specs.declared.Kind.{Kind}
+use Rattle.bundle.specs.declared.Kind.the-variants.{Null, Movable, Fixed}
+use Rattle.bundle.specs.declared.Bundle.{Bundle}
 use Rattle.entry.specs.declared.Slot.{Slot}
-use Rattle.entry.specs.declared.Step.{Step}
-use Rattle.entry.specs.declared.Step.the-variants.{Next, End, Refused}
-use Rattle.entry.specs.declared.Entry.{Entry}
-use Rattle.entry.specs.declared.Answer as answer
-use Rattle.entry.specs.declared.Answer.the-variants as answers
-use Rattle.entry.specs.Bundle.{entryOf, widthOf, stepOf}
-use Rattle.entry.specs.Table.{Table, Sound, Unsound, after, onStep, bundlesFrom, tableOf, covers, chosen, slotIn, noSlot}
+use Rattle.bundle.specs.declared.Entry.{Entry}
+use Rattle.bundle.specs.declared.Answer as answer
+use Rattle.bundle.specs.declared.Answer.the-variants as answers
+use Rattle.bundle.specs.Bundle.{entryOf, widthOf}
+use Rattle.entry.specs.Table.{Table, Sound, Unsound, tableOf, covers, chosen, slotIn, noSlot, ordinalsIn}
 use Rattle.entry.specs.Ordinal.{tableBytes, inTable, ordinalIn, ordinalOf}
 use Rattle.entry.specs.Covered.{Among, Covered, entryIn, Resolves, IsCovered}
 use Rattle.entry.proofs.Covers.{covered}
-use Rattle.entry.proofs.Steps.{Went, went}
-
-never : {X : Type 0} → _≡_ {A = ℕ} 0 1 → X
-never e = absurd (omega arith)
+use Rattle.entry.proofs.Induction.{sound-table}
 
 -- Each bundle starts where the one before it ended.
 abbrev pub Follow : ℕ → List Bundle → Type 0
@@ -99,33 +94,17 @@ slot-cases slot number (b ∷ bs) = go (covers b number) refl (slot-cases (chose
         inr (record { bundle = b; among = inl refl; above = c .0; within = c .1; is = q ∙ chosen-yes slot b number (c .0) (c .1) })
     go false e (inl q) = inl (q ∙ chosen-no slot b number e)
 
-module _ (table : List ℕ) (segments : ℕ) where
-  followed : (used : ℕ) (b : Bundle) (t : Table) (bs : List Bundle) → b .used ≡ used → ((rest : List Bundle) → t ≡ Sound rest → Follow (used + b .count) rest) → after b t ≡ Sound bs → Follow used bs
-  followed used b (Unsound why) bs base ih e = never cc
-  followed used b (Sound rest) bs base ih e =
-      let is : bs ≡ b ∷ rest = cc in
-      rw is (base, ih rest refl)
-
-  follow : (turns at used : ℕ) (bs : List Bundle) → bundlesFrom turns table segments at used ≡ Sound bs → Follow used bs
-  unfolding bundlesFrom
-  follow zero at used bs e = never cc
-  follow (suc turns) at used bs e = go (stepOf table segments at used) refl (λ at used bs q. follow turns at used bs q)
-    where
-      go : (s : Step) → stepOf table segments at used ≡ s → ((at used : ℕ) (bs : List Bundle) → bundlesFrom turns table segments at used ≡ Sound bs → Follow used bs) → Follow used bs
-      go (Refused why) q ih = let z : Unsound why ≡ Sound bs = rw q at e in never cc
-      go End q ih =
-          let z : Sound [] ≡ Sound bs = rw q at e in
-          let is : bs ≡ [] = cc in
-          rw is tt
-      go (Next b) q ih =
-          let z : after b (bundlesFrom turns table segments (b .end) (b .used + b .count)) ≡ Sound bs = rw q at e in
-          let base = went table segments at used b q .base in
-          followed used b (bundlesFrom turns table segments (b .end) (b .used + b .count)) bs base (λ rest h. rw (sym base) (ih (b .end) (b .used + b .count) rest h)) z
-
 -- The bundles of a sound table follow each other from the first ordinal on.
 pub sound-follow : (table : List ℕ) (segments : ℕ) (bs : List Bundle) → tableOf table segments ≡ Sound bs → Follow 0 bs
-unfolding tableOf
-sound-follow table segments bs e = follow table segments (suc (length table)) 0 0 bs e
+sound-follow table segments = sound-table table segments (λ at used bs. Follow used bs) (λ at used. tt) (λ at used b bs w f. (w .base, rw (sym (w .base)) f))
+
+-- "14: over 65,535 ordinals": a sound table has no more.
+pub ordinals-few : (table : List ℕ) (segments : ℕ) (bs : List Bundle) → tableOf table segments ≡ Sound bs → ordinalsIn bs ≤ 65535
+unfolding ordinalsIn
+ordinals-few table segments bs e = let all = counted bs e (omega arith) in omega (arith, all)
+  where
+    counted : (bs : List Bundle) → tableOf table segments ≡ Sound bs → 0 ≤ 65535 → 0 + ordinalsIn bs ≤ 65535
+    counted = sound-table table segments (λ at used bs. used ≤ 65535 → used + ordinalsIn bs ≤ 65535) (λ at used h. omega arith) (λ at used b bs w f h. let rest = f (w .few) in omega (arith, rest, w .base))
 
 module _ (image : List ℕ) (h : Header) (number : ℕ) (good : headerOf image ≡ header-answer.Accepted h) where
   answer-is : (bs : List Bundle) → tableOf (tableBytes image h) (h .segments .count) ≡ Sound bs → ordinalOf image number ≡ entryOf (slotIn noSlot bs number .kind) (drop (slotIn noSlot bs number .at) (tableBytes image h))

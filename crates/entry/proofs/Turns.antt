@@ -1,17 +1,17 @@
 -- The laws of the table from a place on: it doesn't matter how many turns are left over, so the table is what stands at the
 -- place, and then the table behind it.
 -- Assumes nothing.
-use mathlib.Core.Path.{_≡_, refl, ap, sym, _∙_}
+use mathlib.Core.Path.{_≡_, refl, ap}
 use mathlib.Core.List.{List, []}
 use Prim.Native.Nat.{ℕ, zero, suc, _+_, _-_, _≤_, _<_}
 use native.Mathlib.Omega.{arith}
 use lib.ListN.{length}
-use Rattle.entry.specs.declared.Bundle.{Bundle}
-use Rattle.entry.specs.declared.Step.{Step}
-use Rattle.entry.specs.declared.Step.the-variants.{Next, End, Refused}
-use Rattle.entry.specs.Bundle.{stepOf}
+use Rattle.bundle.specs.declared.Bundle.{Bundle}
+use Rattle.bundle.specs.declared.Step.{Step}
+use Rattle.bundle.specs.declared.Step.the-variants.{Next, End, Refused}
+use Rattle.bundle.specs.Bundle.{stepOf}
 use Rattle.entry.specs.Table.{Table, Sound, Unsound, after, onStep, bundlesFrom, tableOf}
-use Rattle.entry.proofs.Steps.{Went, went}
+use Rattle.bundle.proofs.Went.{Went, went}
 
 module _ (table : List ℕ) (segments : ℕ) where
   -- More turns than enough change nothing.

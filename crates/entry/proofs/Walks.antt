@@ -1,20 +1,17 @@
 -- What a walk that was done says about the table.
 -- Assumes nothing.
-use mathlib.Core.Path.{_≡_, refl}
+use mathlib.Core.Path.{_≡_}
 use mathlib.Core.List.{List}
 use Prim.Native.Nat.{ℕ}
-use native.Mathlib.Omega.{arith}
 use lib.ListN.{drop}
+use Rattle.checks.proofs.Impossible.{never}
 use Rattle.refusal.specs.declared.Refusal.{Refusal}
 use Rattle.entry.specs.declared.Found.{Found}
 use Rattle.entry.specs.declared.Walked.the-variants as walked
-use Rattle.entry.specs.declared.Answer.the-variants.{Refused}
-use Rattle.entry.specs.Bundle.{entryOf}
+use Rattle.bundle.specs.declared.Answer.the-variants.{Refused}
+use Rattle.bundle.specs.Bundle.{entryOf}
 use Rattle.entry.specs.Table.{Table, Sound, Unsound, walkOf, slotIn, noSlot, ordinalsIn}
 use Rattle.entry.specs.Ordinal.{inTable}
-
-never : {X : Type 0} → _≡_ {A = ℕ} 0 1 → X
-never e = absurd (omega arith)
 
 pub sound-answer : (table : List ℕ) (t : Table) (number : ℕ) (f : Found) → walkOf t number ≡ walked.Sound f → inTable table t number ≡ entryOf (f .slot .kind) (drop (f .slot .at) table)
 sound-answer table (Sound bs) number f e =

@@ -5,12 +5,12 @@ use mathlib.Core.List.{List, [], _∷_}
 use Prim.Native.Nat.{ℕ, _+_, _*_, _-_, _≤_, _<_}
 use lib.ListN.{drop}
 use Rattle.header.specs.declared.Header.{Header}
-use Rattle.entry.specs.declared.Kind.the-variants.{Null}
-use Rattle.entry.specs.declared.Bundle.{Bundle}
-use Rattle.entry.specs.declared.Entry.{Entry}
-use Rattle.entry.specs.declared.Answer.{Answer}
-use Rattle.entry.specs.declared.Answer.the-variants.{Accepted}
-use Rattle.entry.specs.Bundle.{widthOf, entryOf}
+use Rattle.bundle.specs.declared.Kind.the-variants.{Null}
+use Rattle.bundle.specs.declared.Bundle.{Bundle}
+use Rattle.bundle.specs.declared.Entry.{Entry}
+use Rattle.bundle.specs.declared.Answer.{Answer}
+use Rattle.bundle.specs.declared.Answer.the-variants.{Accepted}
+use Rattle.bundle.specs.Bundle.{widthOf, entryOf}
 use Rattle.entry.specs.Table.{Sound, tableOf}
 use Rattle.entry.specs.Ordinal.{tableBytes, ordinalOf}
 

@@ -2,10 +2,9 @@
 use mathlib.Core.Path.{_≡_}
 use mathlib.Core.List.{List, [], _∷_, _++_}
 use Prim.Native.Nat.{ℕ, _+_, _*_, _/_, _%_}
-use lib.ListN.{length, replicate}
 use Rattle.le.specs.Slice.{zeros}
 use Rattle.entry.specs.Ordinal.{ordinalOf}
-use Rattle.entry.specs.Values.{valuesOf}
+use Rattle.bundle.specs.Values.{valuesOf}
 
 -- Words as bytes, the low byte first.
 abbrev pub words : List ℕ → List ℕ

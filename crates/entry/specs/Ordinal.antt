@@ -4,9 +4,9 @@ use mathlib.Core.List.{List}
 use lib.ListN.{take, drop}
 use Rattle.header.specs.Header.{headerOf, onHeader}
 use Rattle.header.specs.declared.Header.{Header}
-use Rattle.entry.specs.declared.Answer.{Answer}
-use Rattle.entry.specs.declared.Answer.the-variants.{Accepted, Refused}
-use Rattle.entry.specs.Bundle.{entryOf}
+use Rattle.bundle.specs.declared.Answer.{Answer}
+use Rattle.bundle.specs.declared.Answer.the-variants.{Refused}
+use Rattle.bundle.specs.Bundle.{entryOf}
 use Rattle.entry.specs.Table.{Table, Sound, Unsound, tableOf, slotIn, noSlot}
 
 -- "04 entry table, 06 its bytes".

@@ -6,14 +6,14 @@ use lib.ListN.{length}
 use lib.Dec.{ltb, leb}
 use Rattle.refusal.specs.declared.Refusal.{Refusal}
 use Rattle.refusal.specs.declared.Refusal.the-variants.{EntryTableEnds}
-use Rattle.entry.specs.declared.Kind.the-variants.{Null}
-use Rattle.entry.specs.declared.Bundle.{Bundle}
+use Rattle.bundle.specs.declared.Kind.the-variants.{Null}
+use Rattle.bundle.specs.declared.Bundle.{Bundle}
 use Rattle.entry.specs.declared.Slot.{Slot}
-use Rattle.entry.specs.declared.Step as step
-use Rattle.entry.specs.declared.Step.the-variants.{Next, End, Refused}
+use Rattle.bundle.specs.declared.Step as step
+use Rattle.bundle.specs.declared.Step.the-variants.{Next, End, Refused}
 use Rattle.entry.specs.declared.Walked as walk
 use Rattle.entry.specs.declared.Walked.the-variants as walks
-use Rattle.entry.specs.Bundle.{widthOf, stepOf}
+use Rattle.bundle.specs.Bundle.{widthOf, stepOf}
 
 -- A table is sound, and then it is its bundles in their order, or it is refused.
 pub data Table : Type 0 where

@@ -1,42 +1,16 @@
 // The entry table: what an ordinal stands for, or the refusal (12 to 15).
 //
-// One walk, bundle by bundle, serves all who read the table: `next` is its step, `walk` goes to the end.
-mod bundles;
+// One walk, bundle by bundle, serves all who read the table.
 mod slots;
 mod whole;
 
-pub use bundles::next;
+use bundle::Answer;
+use bundle::Kind;
 use header::Header;
 use refusal::Refusal;
-pub use slots::read_entry;
-pub use slots::width;
 pub use whole::walk;
 ghost use mathlib.Core.Path.{_≡_};
 ghost use Rattle.entry.specs.Ordinal.{tableBytes, ordinalOf, ordinalIn};
-
-// What a bundle's segment byte says: its ordinals have no entries, movable entries, or entries in a segment of this number.
-pub enum Kind {
-    Null,
-    Movable,
-    Fixed(u8),
-}
-
-pub struct Bundle {
-    // How many ordinals the bundles before it use: its own first one is the next.
-    pub used: u32,
-    pub count: u32,
-    pub kind: Kind,
-    // The places of its first entry and of the next bundle, counted from the table's start.
-    pub at: usize,
-    pub end: usize,
-}
-
-// One step of the walk: a bundle, the end byte, or why the table is unsound here.
-pub enum Step {
-    Next(Bundle),
-    End,
-    Refused(Refusal),
-}
 
 // Where an ordinal's entry stands, counted from the table's start; of the kind `Null` where it has none.
 pub struct Slot {
@@ -53,17 +27,6 @@ pub struct Found {
 pub enum Walked {
     Sound(Found),
     Unsound(Refusal),
-}
-
-pub struct Entry {
-    pub segment: u8,
-    pub offset: u16,
-    pub flag: u8,
-}
-
-pub enum Answer {
-    Accepted(Entry),
-    Refused(Refusal),
 }
 
 // What an ordinal stands for.
@@ -89,7 +52,7 @@ pub fn in_table(image: &[u8], h: Header, number: u32) -> Answer
             let slot = found.slot;
             let kind = slot.kind;
             let at = slot.at;
-            read_entry(kind, le::slice::from(bytes, at))
+            bundle::read_entry(kind, le::slice::from(bytes, at))
         }
     }
 }

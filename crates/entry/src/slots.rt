@@ -1,44 +1,9 @@
-// An ordinal's slot in its bundle, and what the bytes there say.
-use crate::Answer;
-use crate::Bundle;
-use crate::Entry;
-use crate::Kind;
+// An ordinal's slot in the bundle that covers it.
 use crate::Slot;
-use refusal::Refusal;
+use bundle::Bundle;
 ghost use mathlib.Core.Path.{_≡_};
-ghost use Prim.Native.Nat.{_^_, _<_, _≤_};
-ghost use Rattle.entry.specs.Bundle.{widthOf, entryOf};
+ghost use Prim.Native.Nat.{_^_, _<_};
 ghost use Rattle.entry.specs.Table.{chosen, covers};
-
-// The bytes of an entry.
-pub fn width(kind: Kind) -> usize
-    ensures { λ r. ⌜ (r ≡ widthOf kind) × (r ≤ 6) ⌝ }
-{
-    match kind {
-        Kind::Null => 0,
-        Kind::Movable => 6,
-        Kind::Fixed(_) => 3,
-    }
-}
-
-// What the entry says that starts at the first byte of `e`.
-pub fn read_entry(kind: Kind, e: &[u8]) -> Answer
-    ensures { λ r. ⌜ r ≡ entryOf kind (now (e .entry)) ⌝ }
-{
-    match kind {
-        Kind::Null => Answer::Refused(Refusal::NoSuchOrdinal),
-        Kind::Movable => Answer::Accepted(Entry {
-            segment: le::byte(e, 3),
-            offset: le::word(e, 4),
-            flag: le::byte(e, 0),
-        }),
-        Kind::Fixed(segment) => Answer::Accepted(Entry {
-            segment: segment,
-            offset: le::word(e, 1),
-            flag: le::byte(e, 0),
-        }),
-    }
-}
 
 // Whether a bundle covers an ordinal.
 fn covers(b: Bundle, number: u32) -> bool
@@ -61,7 +26,7 @@ pub fn choose(other: Slot, b: Bundle, number: u32) -> Slot
         let index = (number - 1 - b.used) as usize;
         return Slot {
             kind: kind,
-            at: b.at + width(kind) * index,
+            at: b.at + bundle::width(kind) * index,
         };
     }
     other

@@ -1,11 +1,10 @@
 // The walk of a whole table.
 use crate::Found;
-use crate::Kind;
 use crate::Slot;
-use crate::Step;
 use crate::Walked;
-use crate::bundles;
 use crate::slots;
+use bundle::Kind;
+use bundle::Step;
 ghost use mathlib.Core.Path.{_≡_};
 ghost use Rattle.entry.specs.Table.{tableOf, walkOf};
 
@@ -20,7 +19,7 @@ pub fn walk(table: &[u8], segments: u32, number: u32) -> Walked
         at: 0,
     };
     loop {
-        let step = bundles::next(table, segments, at, used);
+        let step = bundle::next(table, segments, at, used);
         match step {
             Step::Refused(why) => {
                 return Walked::Unsound(why);

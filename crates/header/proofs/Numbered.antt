@@ -6,6 +6,7 @@ use Prim.Native.Nat.{ℕ, _≤_, _<_}
 use native.Mathlib.Omega.{arith}
 use borrow.Author.Tests.{ltb-false, eqb-false}
 use lib.Dec.{eqb}
+use Rattle.checks.proofs.Impossible.{never}
 use Rattle.header.specs.Header.{lacks}
 
 pub has : (count number : ℕ) → lacks count number ≡ false → (0 < number) × (number ≤ count)
@@ -14,9 +15,8 @@ has count number e = go (eqb number 0) refl
   where
     go : (t : Bool) → eqb number 0 ≡ t → (0 < number) × (number ≤ count)
     go true q =
-        let never : true ≡ false = rw q at e in
-        let z : _≡_ {A = ℕ} 0 1 = cc in
-        absurd (omega arith)
+        let z : true ≡ false = rw q at e in
+        never cc
     go false q =
         let some : number ≡ 0 → ⊥ = eqb-false number 0 q in
         (omega arith, ltb-false count number (rw q at e))

@@ -1,7 +1,6 @@
--- No listing is longer than 458,771 bytes: an entry takes 3 bytes of the table at least, and its line at most 20, and the
--- first line and the last have 19 together.
+-- The law of a listing's length: none is longer than `most`.
 -- Assumes nothing.
-use mathlib.Core.Path.{_≡_, refl, ap, sym, _∙_}
+use mathlib.Core.Path.{_≡_, refl, _∙_}
 use mathlib.Core.Bool.{Bool, true, false, cond}
 use mathlib.Core.List.{List, [], _∷_, _++_}
 use Prim.Native.Nat.{ℕ, zero, suc, _+_, _*_, _-_, _≤_}
@@ -10,30 +9,25 @@ use native.Mathlib.Nat.{mul-suc, le-trans}
 use lib.Dec.{ltb}
 use lib.ListN.{length, length-append, length-take, length-drop, drop}
 use borrow.Author.Tests.{ltb-false}
-use Rattle.refusal.specs.declared.Refusal.{Refusal}
 use Rattle.refusal.specs.Number.{numberOf}
 use Rattle.header.specs.Header.{headerOf, onHeader}
 use Rattle.header.specs.declared.Header.{Header}
 use Rattle.header.specs.declared.Answer as header
 use Rattle.header.specs.declared.Answer.the-variants as header-answer
-use Rattle.entry.specs.declared.Kind.{Kind}
-use Rattle.entry.specs.declared.Kind.the-variants.{Null, Movable, Fixed}
-use Rattle.entry.specs.declared.Bundle.{Bundle}
-use Rattle.entry.specs.declared.Step.{Step}
-use Rattle.entry.specs.declared.Step.the-variants.{Next, End, Refused}
-use Rattle.entry.specs.declared.Entry.{Entry}
-use Rattle.entry.specs.Bundle.{widthOf, entryOf, stepOf}
-use Rattle.entry.specs.Table.{Table, Sound, Unsound, after, bundlesFrom, tableOf, ordinalsIn}
+use Rattle.bundle.specs.declared.Kind.{Kind}
+use Rattle.bundle.specs.declared.Kind.the-variants.{Null, Movable, Fixed}
+use Rattle.bundle.specs.declared.Bundle.{Bundle}
+use Rattle.bundle.specs.declared.Entry.{Entry}
+use Rattle.bundle.specs.Bundle.{widthOf, entryOf}
+use Rattle.entry.specs.Table.{Table, Sound, Unsound, tableOf, ordinalsIn}
 use Rattle.entry.specs.Ordinal.{tableBytes}
-use Rattle.entry.proofs.Steps.{Went, went}
+use Rattle.bundle.proofs.Went.{Went}
+use Rattle.entry.proofs.Induction.{sound-table}
 use Rattle.listing.specs.Text.{ascii, digitsOf, decimalWidth, decimalOf, hexOf}
-use Rattle.listing.specs.Listing.{numberLine, refusedOf, lineOf, answerLine, linesFrom, tableListing, entriesOf, listingOf}
+use Rattle.listing.specs.Listing.{numberLine, refusedOf, lineOf, answerLine, tableListing, entriesOf, listingOf, most}
 use Rattle.listing.specs.Bundles.{slotLines, bundleLines, bundlesLines}
 use Rattle.listing.proofs.Digits.{digits-length}
 use Rattle.listing.proofs.ByBundle.{by-bundle}
-
-never : {X : Type 0} → _≡_ {A = ℕ} 0 1 → X
-never e = absurd (omega arith)
 
 decimal-short : (n : ℕ) → decimalWidth n ≤ 5
 unfolding decimalWidth
@@ -83,37 +77,23 @@ slots-short (suc count) table kind number at =
     rw mul-suc (omega (arith, here, rest, all))
 
 module _ (table : List ℕ) (segments : ℕ) where
-  bundle-short : (at used : ℕ) (b : Bundle) (t : Table) (bs : List Bundle) → Went table at used b → ((rest : List Bundle) → t ≡ Sound rest → length (bundlesLines table rest) ≤ 7 * (length table - b .end)) → after b t ≡ Sound bs → length (bundlesLines table bs) ≤ 7 * (length table - at)
+  bundles-short : (bs : List Bundle) → tableOf table segments ≡ Sound bs → length (bundlesLines table bs) ≤ 7 * length table
   unfolding bundlesLines
-  bundle-short at used b (Unsound why) bs w ih e = never cc
-  bundle-short at used b (Sound rest) bs w ih e =
-      let is : bs ≡ b ∷ rest = cc in
-      let here = slots-short (b .count) table (b .kind) (b .used + 1) (b .at) in
-      let later = ih rest refl in
-      let all = length-append (bundleLines table b) (bundlesLines table rest) in
-      rw is (omega (arith, here, later, all, w .on, w .size, w .end))
-
-  bundles-short : (turns at used : ℕ) (bs : List Bundle) → bundlesFrom turns table segments at used ≡ Sound bs → length (bundlesLines table bs) ≤ 7 * (length table - at)
-  unfolding bundlesFrom bundlesLines
-  bundles-short zero at used bs e = never cc
-  bundles-short (suc turns) at used bs e = go (stepOf table segments at used) refl (λ at used bs q. bundles-short turns at used bs q)
+  bundles-short bs e =
+      let all = sound-table table segments (λ at used bs. length (bundlesLines table bs) ≤ 7 * (length table - at)) (λ at used. omega arith) one bs e in
+      omega (arith, all)
     where
-      go : (s : Step) → stepOf table segments at used ≡ s → ((at used : ℕ) (bs : List Bundle) → bundlesFrom turns table segments at used ≡ Sound bs → length (bundlesLines table bs) ≤ 7 * (length table - at)) → length (bundlesLines table bs) ≤ 7 * (length table - at)
-      go (Refused why) q ih = let z : Unsound why ≡ Sound bs = rw q at e in never cc
-      go End q ih =
-          let z : Sound [] ≡ Sound bs = rw q at e in
-          let is : bs ≡ [] = cc in
-          rw is (omega arith)
-      go (Next b) q ih =
-          let z : after b (bundlesFrom turns table segments (b .end) (b .used + b .count)) ≡ Sound bs = rw q at e in
-          bundle-short at used b (bundlesFrom turns table segments (b .end) (b .used + b .count)) bs (went table segments at used b q) (λ rest h. ih (b .end) (b .used + b .count) rest h) z
+      one : (at used : ℕ) (b : Bundle) (bs : List Bundle) → Went table at used b → length (bundlesLines table bs) ≤ 7 * (length table - b .end) → length (bundlesLines table (b ∷ bs)) ≤ 7 * (length table - at)
+      one at used b bs w later =
+          let here = slots-short (b .count) table (b .kind) (b .used + 1) (b .at) in
+          let all = length-append (bundleLines table b) (bundlesLines table bs) in
+          omega (arith, here, later, all, w .on, w .size, w .end)
 
   table-short : (t : Table) → tableOf table segments ≡ t → length (tableListing table t) ≤ 7 * length table + 19
-  unfolding tableOf
   table-short (Unsound why) e = let h = number-line-short (ascii "refused ") (numberOf why) in omega (arith, h)
   table-short (Sound bs) e =
       let count = number-line-short (ascii "ordinals ") (ordinalsIn bs) in
-      let lines = bundles-short (suc (length table)) 0 0 bs e in
+      let lines = bundles-short bs e in
       let text = numberLine (ascii "ordinals ") (ordinalsIn bs) in
       let inner = length-append (bundlesLines table bs) (ascii "end\n") in
       let all = length-append text (bundlesLines table bs ++ ascii "end\n") in
@@ -127,11 +107,11 @@ entries-short image h =
     let whole = table-short table (h .segments .count) (tableOf table (h .segments .count)) refl in
     omega (arith, part, whole)
 
-pub listing-short : (image : List ℕ) → length (listingOf image) ≤ 458771
+pub listing-short : (image : List ℕ) → length (listingOf image) ≤ most
 unfolding listingOf onHeader
 listing-short image = go (ltb 65536 (length image)) refl (headerOf image)
   where
-    go : (long : Bool) → ltb 65536 (length image) ≡ long → (a : header.Answer) → length (cond long (ascii "too long\n") (onHeader a refusedOf λ h. entriesOf image h)) ≤ 458771
+    go : (long : Bool) → ltb 65536 (length image) ≡ long → (a : header.Answer) → length (cond long (ascii "too long\n") (onHeader a refusedOf λ h. entriesOf image h)) ≤ most
     go true q a = omega arith
     go false q (header-answer.Refused why) = let h = number-line-short (ascii "refused ") (numberOf why) in omega (arith, h)
     go false q (header-answer.Accepted h) = omega (arith, entries-short image h, ltb-false 65536 (length image) q)

@@ -8,9 +8,9 @@ use native.Mathlib.Omega.{arith}
 use native.Mathlib.Nat.{mul-suc, zero-add, suc-add}
 use native.Mathlib.Numerals.{add-one}
 use lib.ListN.{drop}
-use Rattle.entry.specs.declared.Bundle.{Bundle}
-use Rattle.entry.specs.declared.Answer.{Answer}
-use Rattle.entry.specs.Bundle.{widthOf, entryOf}
+use Rattle.bundle.specs.declared.Bundle.{Bundle}
+use Rattle.bundle.specs.declared.Answer.{Answer}
+use Rattle.bundle.specs.Bundle.{widthOf, entryOf}
 use Rattle.entry.specs.Table.{Sound, tableOf, ordinalsIn}
 use Rattle.entry.specs.Ordinal.{inTable}
 use Rattle.entry.specs.Covered.{Among}

@@ -3,7 +3,7 @@
 use mathlib.Core.Path.{refl}
 use Rattle.le.specs.Number.{number}
 use Rattle.header.specs.Header.{headerOf, headerChecks, tablesOf, leaves, onHeader, lacks}
-use Rattle.entry.specs.Bundle.{kindOf, unsoundFrom, bundleAt, bundleChecks, stepOf}
+use Rattle.bundle.specs.Bundle.{kindOf, unsoundFrom, bundleAt, bundleChecks, stepOf}
 use Rattle.entry.specs.Table.{bundlesFrom, tableOf, chosen, slotIn, ordinalsIn}
 use Rattle.entry.specs.Ordinal.{ordinalIn}
 use Rattle.listing.specs.Text.{digitOf, digitsOf, decimalWidth}

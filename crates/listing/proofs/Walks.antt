@@ -1,10 +1,10 @@
 -- What a walk that was done says about the listing of a table.
 -- Assumes nothing.
-use mathlib.Core.Path.{_≡_, refl, ap, sym, _∙_}
+use mathlib.Core.Path.{_≡_, refl}
 use mathlib.Core.Bool.{true}
 use mathlib.Core.List.{List, _++_}
 use Prim.Native.Nat.{ℕ}
-use native.Mathlib.Omega.{arith}
+use Rattle.checks.proofs.Impossible.{never}
 use Rattle.refusal.specs.declared.Refusal.{Refusal}
 use Rattle.entry.specs.declared.Found.{Found}
 use Rattle.entry.specs.declared.Walked.the-variants as walked
@@ -13,9 +13,6 @@ use Rattle.listing.specs.Text.{ascii}
 use Rattle.listing.specs.Listing.{refusedOf, countOf, tableListing}
 use Rattle.listing.specs.Bundles.{tableLines, isSound}
 use Rattle.listing.proofs.ByBundle.{by-bundle}
-
-never : {X : Type 0} → _≡_ {A = ℕ} 0 1 → X
-never e = absurd (omega arith)
 
 pub is-sound : (t : Table) (number : ℕ) (f : Found) → walkOf t number ≡ walked.Sound f → isSound t ≡ true
 is-sound (Sound bs) number f e = refl

@@ -3,9 +3,9 @@ use mathlib.Core.Bool.{Bool, true, false}
 use mathlib.Core.List.{List, [], _∷_, _++_}
 use Prim.Native.Nat.{ℕ, zero, suc, _+_}
 use lib.ListN.{drop}
-use Rattle.entry.specs.declared.Kind.{Kind}
-use Rattle.entry.specs.declared.Bundle.{Bundle}
-use Rattle.entry.specs.Bundle.{widthOf, entryOf}
+use Rattle.bundle.specs.declared.Kind.{Kind}
+use Rattle.bundle.specs.declared.Bundle.{Bundle}
+use Rattle.bundle.specs.Bundle.{widthOf, entryOf}
 use Rattle.entry.specs.Table.{Table, Sound, Unsound}
 use Rattle.listing.specs.Listing.{answerLine}
 

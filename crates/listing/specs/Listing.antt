@@ -1,6 +1,6 @@
 -- Document 01: the listing.
 use mathlib.Core.Bool.{cond}
-use mathlib.Core.List.{List, [], _∷_, _++_}
+use mathlib.Core.List.{List, [], _++_}
 use Prim.Native.Nat.{ℕ, zero, suc, _+_}
 use lib.Dec.{ltb}
 use lib.ListN.{length}
@@ -8,9 +8,9 @@ use Rattle.refusal.specs.declared.Refusal.{Refusal}
 use Rattle.refusal.specs.Number.{numberOf}
 use Rattle.header.specs.Header.{headerOf, onHeader}
 use Rattle.header.specs.declared.Header.{Header}
-use Rattle.entry.specs.declared.Entry.{Entry}
-use Rattle.entry.specs.declared.Answer.{Answer}
-use Rattle.entry.specs.declared.Answer.the-variants.{Accepted, Refused}
+use Rattle.bundle.specs.declared.Entry.{Entry}
+use Rattle.bundle.specs.declared.Answer.{Answer}
+use Rattle.bundle.specs.declared.Answer.the-variants.{Accepted, Refused}
 use Rattle.entry.specs.Table.{Table, Sound, Unsound, tableOf, ordinalsIn}
 use Rattle.entry.specs.Ordinal.{tableBytes, inTable}
 use Rattle.listing.specs.Text.{ascii, decimalOf, hexOf}
@@ -59,3 +59,8 @@ entriesOf image h =
 -- "The listing program reads an image of at most 65,536 bytes (else the line `too long`)".
 unfoldable pub listingOf : List ℕ → List ℕ
 listingOf image = cond (ltb 65536 (length image)) (ascii "too long\n") (onHeader (headerOf image) refusedOf λ h. entriesOf image h)
+
+-- No listing is longer: an entry takes 3 bytes of the table at least and its line at most 20, so 7 bytes for each byte of the
+-- image are enough, and the first line and the last have at most 19 together.
+abbrev pub most : ℕ
+most = 458771

@@ -1,15 +1,15 @@
 // The listing of an image whose header is sound.
 use crate::lines;
 use crate::text;
-use entry::Bundle;
-use entry::Step;
+use bundle::Bundle;
+use bundle::Step;
 use entry::Walked;
 use header::Header;
 ghost use mathlib.Core.Path.{_≡_};
 ghost use mathlib.Core.Bool.{true};
 ghost use Prim.Native.Nat.{_^_, _<_, _≤_, _+_, _*_};
 ghost use lib.ListN.{length};
-ghost use Rattle.entry.specs.Bundle.{widthOf};
+ghost use Rattle.bundle.specs.Bundle.{widthOf};
 ghost use Rattle.entry.specs.Table.{tableOf};
 ghost use Rattle.listing.specs.Text.{Wrote};
 ghost use Rattle.listing.specs.Listing.{entriesOf};
@@ -39,7 +39,7 @@ fn bundles(table: &[u8], segments: u32, out: &mut [u8], at: usize) -> usize
     let mut place = 0;
     let mut used = 0;
     loop {
-        let step = entry::next(table, segments, place, used);
+        let step = bundle::next(table, segments, place, used);
         match step {
             Step::Refused(_) => {
                 return next;
@@ -67,9 +67,9 @@ fn bundle(table: &[u8], b: Bundle, out: &mut [u8], at: usize) -> usize
     let mut number = b.used + 1;
     let mut left = b.count;
     while 0 < left {
-        let answer = entry::read_entry(kind, le::slice::from(table, place));
+        let answer = bundle::read_entry(kind, le::slice::from(table, place));
         next = lines::ordinal(out, next, number, answer);
-        place += entry::width(kind);
+        place += bundle::width(kind);
         number += 1;
         left -= 1;
     }

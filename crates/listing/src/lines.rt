@@ -1,8 +1,7 @@
 // The lines of a listing.
 use crate::text;
-use entry::Answer;
-use entry::Entry;
-ghost use mathlib.Core.Path.{_≡_};
+use bundle::Answer;
+use bundle::Entry;
 ghost use Prim.Native.Nat.{_+_, _^_, _<_, _≤_};
 ghost use lib.ListN.{length};
 ghost use Rattle.listing.specs.Text.{Wrote};

@@ -3,7 +3,7 @@ ghost use mathlib.Core.Path.{_≡_};
 ghost use Rattle.segment.specs.Segment.{segmentOf};
 ghost use Rattle.segment.specs.Values as segment;
 ghost use Rattle.entry.specs.Ordinal.{ordinalOf};
-ghost use Rattle.entry.specs.Values as entry;
+ghost use Rattle.bundle.specs.Values as entry;
 ghost use Rattle.ne.specs.Fields.{segmentFields, ordinalFields};
 
 #[repr(C)]
@@ -60,13 +60,13 @@ pub extern "C" fn ne_ordinal(image: &[u8], number: u32) -> NeOrdinal
 {
     let answer = entry::by_ordinal(image, number);
     match answer {
-        entry::Answer::Refused(why) => NeOrdinal {
+        bundle::Answer::Refused(why) => NeOrdinal {
             refusal: refusal::number(why),
             segment: 0,
             offset: 0,
             flag: 0,
         },
-        entry::Answer::Accepted(e) => {
+        bundle::Answer::Accepted(e) => {
             let segment = e.segment as u32;
             let offset = e.offset as u32;
             let flag = e.flag as u32;

@@ -12,6 +12,7 @@ use borrow.Author.Tests.{ltb-false}
 use lib.Dec.{ltb}
 use lib.ListN.{length}
 use Rattle.refusal.specs.declared.Refusal.the-variants.{NoSuchNumber}
+use Rattle.checks.proofs.Impossible.{never}
 use Rattle.checks.specs.Checks.{decide, Passed, _⇒_}
 use Rattle.checks.proofs.Checks.{passed, answered}
 use Rattle.le.specs.Number.{byteAt, wordAt}
@@ -91,5 +92,4 @@ accepted image number s e = go (headerOf image) refl
         (header-bounds.accepted image h q .size, record-accepted image h (number - 1) s (sym is ∙ found))
     go (header-answer.Refused why) q =
         let found : Refused why ≡ Accepted s = rw q at e in
-        let z : _≡_ {A = ℕ} 0 1 = cc in
-        absurd (omega arith)
+        never cc

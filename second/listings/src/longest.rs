@@ -1,4 +1,5 @@
-//! The longest listings that an image of 65,536 bytes can have.
+//! The longest listings that are known: an image of 65,536 bytes has room for
+//! no more lines, and none with more bytes is known.
 //!
 //! A fixed bundle takes 3 bytes for a line, and 2 more for each 255. The MZ
 //! header's 64 bytes can't be in the table, since its place counts from the NE
@@ -35,8 +36,7 @@ fn most_lines() -> Vec<u8> {
 
 /// 391,296 bytes. A line has 18 where its ordinal has five digits and its
 /// segment three, so null bundles use up the ordinals under 10,000, at 2 bytes
-/// for 255 of them. A search through all tables that start in the header found
-/// none with more.
+/// for 255 of them. No image with a longer listing is known.
 fn most_bytes() -> Vec<u8> {
     let mut image = headers();
     // From "E", 69, on: 69 null ordinals, and an entry of segment 1, which is

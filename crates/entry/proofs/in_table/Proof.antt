@@ -4,7 +4,7 @@ use mathlib.Core.Path.{_≡_, _∙_, sym}
 use denote.Ref.{now}
 use lib.ListN.{drop}
 use Rattle.entry.specs.Table.{tableOf}
-use Rattle.entry.specs.Bundle.{entryOf}
+use Rattle.bundle.specs.Bundle.{entryOf}
 use Rattle.entry.specs.Ordinal.{ordinalIn}
 use Rattle.entry.proofs.Walks.{sound-answer, unsound-answer}
 use borrow.Author.Needs.{needs}

@@ -1,8 +1,7 @@
 -- `segment::by_number` meets its contract: the header's answer, the check of the number, then the record's answer.
 -- Assumes nothing.
 use mathlib.Core.Path.{_≡_, sym, _∙_}
-use mathlib.Core.Bool.{true, false}
-use Prim.Native.Nat.{_<_}
+use mathlib.Core.Bool.{true}
 use native.Mathlib.Omega.{arith}
 use Rattle.header.specs.Header.{onHeader, lacks}
 use Rattle.header.proofs.Numbered.{has}
@@ -27,7 +26,8 @@ returns : tie.Need-returns
 unfolding segmentOf onHeader
 returns c =
     let found = c .before .before .before in
-    rw (sym (found .before .before .read .ensures) ∙ found .headers2 .given .1, sym (c .before .lacks .ensures) ∙ c .if1 .taken)
+    let none : lacks (found .headers2 .given .0 .0 .segments .count) (found .before .before .before .before .args .number) ≡ true = sym (c .before .lacks .ensures) ∙ c .if1 .taken in
+    rw (sym (found .before .before .read .ensures) ∙ found .headers2 .given .1, none)
 
 sub-record : tie.Need-sub-record
 sub-record c =

@@ -1,6 +1,6 @@
 -- `entry::slots::choose` meets its contract: the test is the definition's, and an ordinal that is covered lies above what is used.
 -- Assumes nothing.
-use mathlib.Core.Path.{_≡_, _∙_, sym}
+use mathlib.Core.Path.{_∙_, sym}
 use Prim.Native.Nat.{ℕ, _+_, _*_, _-_, _^_, _≤_, _<_}
 use native.Mathlib.Omega.{arith}
 use Rattle.le.proofs.Product.{product-below}

@@ -2,18 +2,18 @@
 -- the whole table gives.
 -- Assumes nothing.
 use mathlib.Core.Path.{_≡_, _∙_, refl, ap, sym}
-use mathlib.Core.List.{[], _∷_}
+use mathlib.Core.List.{[]}
 use Prim.Native.Nat.{ℕ, _+_, _-_, _^_, _≤_, _<_}
 use native.Mathlib.Omega.{arith}
 use borrow.Author.Needs.{needs}
 use denote.Ref.{now}
 use lib.ListN.{length}
-use Rattle.entry.specs.declared.Bundle.{Bundle}
+use Rattle.bundle.specs.declared.Bundle.{Bundle}
 use Rattle.entry.specs.declared.Slot.{Slot}
 use Rattle.entry.specs.declared.Walked.{Walked}
 use Rattle.entry.specs.declared.Walked.the-variants as walked
 use Rattle.entry.specs.Table.{Table, Sound, Unsound, after, tableOf, walkOf, ordinalsIn, slotIn, noSlot, chosen}
-use Rattle.entry.proofs.Steps.{Went, went}
+use Rattle.bundle.proofs.Went.{Went, went}
 use Rattle.entry.proofs.Turns.{tableAt, unrolled, whole}
 use Rattle.entry.proofs.whole.walk.Statement.{statement}
 use Rattle.entry.proofs.whole.walk.Tie as tie
@@ -31,7 +31,7 @@ found-more : (used number : ℕ) (slot : Slot) (b : Bundle) (t : Table) → b .u
 unfolding ordinalsIn slotIn
 found-more used number slot b (Sound bs) e =
     let sum : used + (b .count + ordinalsIn bs) ≡ b .used + b .count + ordinalsIn bs = omega arith in
-    rw sum
+    ap (λ (n : ℕ). walked.Sound (record { ordinals = n; slot = slotIn (chosen slot b number) bs number })) sum
 found-more used number slot b (Unsound why) e = refl
 
 abbrev Inv-loop : tie.InvT-loop

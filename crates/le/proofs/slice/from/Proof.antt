@@ -1,11 +1,13 @@
 -- `le::slice::from` meets its contract: a part up to the end is all that is left.
 -- Assumes nothing.
+use mathlib.Core.Path.{_≡_, _∙_, sym}
+use mathlib.Core.List.{[]}
 use Prim.Native.Nat.{_≤_, _-_}
 use native.Mathlib.Omega.{arith}
 use borrow.Author.Needs.{needs}
 use denote.Ref.{now}
 use lib.Seq.{take-all, take-nil, drop-length}
-use lib.ListN.{length, drop, length-drop, drop-of-length-le}
+use lib.ListN.{length, take, drop, length-drop, drop-of-length-le}
 use Rattle.le.proofs.slice.from.Statement.{statement}
 use Rattle.le.proofs.slice.from.Tie as tie
 
@@ -37,7 +39,8 @@ returns-2 : tie.Need-returns-2
 returns-2 c =
     let a = c .before .before .args in
     let past : length (now (a .s)) ≤ a .at = omega arith in
-    rw (drop-length (now (a .s)), take-nil, drop-of-length-le (now (a .s)) past)
+    let none : take (length (now (a .s)) - length (now (a .s))) (drop (length (now (a .s))) (now (a .s))) ≡ [] = rw (drop-length (now (a .s)), take-nil) in
+    none ∙ sym (drop-of-length-le (now (a .s)) past)
 
 pub from-spec : {M : Type 1} → statement M
 from-spec =

@@ -2,16 +2,16 @@
 -- what all of them give.
 -- Assumes nothing.
 use mathlib.Core.Path.{_≡_, _∙_, refl, sym}
-use mathlib.Core.List.{List, [], _∷_, _++_}
+use mathlib.Core.List.{List, _++_}
 use Prim.Native.Nat.{ℕ, zero, suc, _+_, _*_, _-_, _^_, _≤_, _<_}
 use native.Mathlib.Omega.{arith}
 use native.Mathlib.Nat.{not-suc-le-zero}
 use borrow.Author.Needs.{needs}
 use denote.Ref.{now}
 use lib.ListN.{length, drop}
-use Rattle.entry.specs.declared.Kind.{Kind}
-use Rattle.entry.specs.Bundle.{widthOf, entryOf}
-use Rattle.entry.proofs.Widths.{one-width}
+use Rattle.bundle.specs.declared.Kind.{Kind}
+use Rattle.bundle.specs.Bundle.{widthOf, entryOf}
+use Rattle.bundle.proofs.Widths.{one-width}
 use Rattle.listing.specs.Text.{Wrote}
 use Rattle.listing.specs.Listing.{answerLine}
 use Rattle.listing.specs.Bundles.{slotLines}

@@ -3,23 +3,21 @@
 -- Assumes nothing.
 use mathlib.Core.Path.{_≡_, _∙_, refl, ap, sym}
 use mathlib.Core.Bool.{true, false}
-use mathlib.Core.List.{List, [], _∷_, _++_}
+use mathlib.Core.List.{List, [], _++_}
 use Prim.Native.Nat.{ℕ, _+_, _*_, _-_, _^_, _≤_, _<_}
 use native.Mathlib.Omega.{arith}
 use borrow.Author.Needs.{needs}
 use denote.Ref.{now}
 use lib.ListN.{length}
-use Rattle.entry.specs.declared.Bundle.{Bundle}
+use Rattle.checks.proofs.Impossible.{never}
+use Rattle.bundle.specs.declared.Bundle.{Bundle}
 use Rattle.entry.specs.Table.{Table, Sound, Unsound, after, tableOf}
-use Rattle.entry.proofs.Steps.{Went, went}
+use Rattle.bundle.proofs.Went.{Went, went}
 use Rattle.entry.proofs.Turns.{tableAt, unrolled, whole}
 use Rattle.listing.specs.Bundles.{bundleLines, bundlesLines, tableLines, isSound}
 use Rattle.listing.proofs.Writing.{Still, start, more, done}
 use Rattle.listing.proofs.entries.bundles.Statement.{statement}
 use Rattle.listing.proofs.entries.bundles.Tie as tie
-
-never : {X : Type 0} → _≡_ {A = ℕ} 0 1 → X
-never e = absurd (omega arith)
 
 sound-after : (b : Bundle) (t : Table) → isSound (after b t) ≡ true → isSound t ≡ true
 sound-after b (Sound bs) e = refl

@@ -3,7 +3,8 @@
 use mathlib.Core.Path.{_≡_, _∙_, sym}
 use native.Mathlib.Omega.{arith}
 use denote.Ref.{now}
-use Rattle.entry.specs.Table.{tableOf}
+use Rattle.entry.specs.declared.Walked.the-variants as walked
+use Rattle.entry.specs.Table.{tableOf, walkOf}
 use Rattle.listing.specs.Listing.{entriesOf}
 use Rattle.listing.proofs.Writing.{then}
 use Rattle.listing.proofs.Walks.{is-sound, unsound-listing, sound-listing}
@@ -71,7 +72,9 @@ unfolding entriesOf
 returns-2 c =
     let bytes = now (c .before .before .before .before .before .before .before .before .before .before .before .before .before .before .before .before .before .before .table .result) in
     let segments = c .before .before .before .before .before .before .before .before .before .before .before .before .before .before .before .before .before .before .before .before .before .args .h .segments .count in
-    let sound = sound-listing bytes segments 0 (c .before .before .before .before .before .before .before .before .before .before .before .before .before .before .before .walked2 .given .0 .0) (sym (c .before .before .before .before .before .before .before .before .before .before .before .before .before .before .before .before .before .walk .ensures) ∙ c .before .before .before .before .before .before .before .before .before .before .before .before .before .before .before .walked2 .given .1) in
+    let found = c .before .before .before .before .before .before .before .before .before .before .before .before .before .before .before .walked2 .given .0 .0 in
+    let walk : walkOf (tableOf bytes segments) 0 ≡ walked.Sound found = sym (c .before .before .before .before .before .before .before .before .before .before .before .before .before .before .before .before .before .walk .ensures) ∙ c .before .before .before .before .before .before .before .before .before .before .before .before .before .before .before .walked2 .given .1 in
+    let sound = sound-listing bytes segments 0 found walk in
     rw (sym (c .before .before .before .before .before .before .before .before .before .before .before .before .before .before .before .before .before .before .table .ensures), sound) (then (c .before .before .before .before .before .before .before .before .before .before .before .numbered2 .ensures .0) (then (c .before .before .before .before .before .before .before .bundles .ensures .0) (c .before .before .ascii .ensures)))
 
 pub list-spec : {M : Type 1} → statement M

@@ -1,14 +1,13 @@
 -- `listing::text::ascii` meets its contract. The loop's invariant: the first `i` bytes are written.
 -- Assumes nothing.
 use mathlib.Core.Path.{_≡_, _∙_, refl, sym}
-use mathlib.Core.List.{List, [], _∷_, _++_}
-use Prim.Native.Nat.{ℕ, _+_, _-_, _≤_, _<_, _^_}
+use mathlib.Core.List.{[], _∷_, _++_}
+use Prim.Native.Nat.{_+_, _-_, _≤_, _<_, _^_}
 use native.Mathlib.Omega.{arith}
 use native.Mathlib.Numerals.{add-one}
-use borrow.Author.Needs.{needs}
 use denote.Ref.{now}
 use lib.ListN.{length, take, getD}
-use lib.Seq.{take-suc, take-length, length-take-le, length-sets}
+use lib.Seq.{take-suc, take-length, length-take-le}
 use Rattle.listing.specs.Text.{Wrote}
 use Rattle.listing.proofs.Writing.{nothing, then}
 use Rattle.listing.proofs.text.ascii.Statement.{statement}

@@ -1,6 +1,5 @@
 -- `listing::text::decimal_width` meets its contract: each test is the definition's.
 -- Assumes nothing.
-use mathlib.Core.Path.{_≡_}
 use native.Mathlib.Omega.{arith}
 use borrow.Author.Tests.{lt-ltb, le-ltb}
 use Rattle.listing.specs.Text.{decimalWidth}

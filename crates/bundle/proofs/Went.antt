@@ -1,0 +1,79 @@
+-- The laws of one step of the walk.
+--     step-past, step-end, step-bundle   what stands at a place, from what its bytes are
+--     went                               what a step that goes on says about its bundle
+-- Assumes nothing.
+use mathlib.Core.Path.{_≡_, refl, ap}
+use mathlib.Core.Bool.{Bool, true, false}
+use mathlib.Core.List.{List}
+use Prim.Native.Nat.{ℕ, _+_, _*_, _≤_, _<_}
+use native.Mathlib.Omega.{arith}
+use borrow.Author.Tests.{lt-ltb, le-ltb, eq-eqb, ne-eqb, ltb-false, eqb-false}
+use lib.Dec.{ltb, eqb}
+use lib.ListN.{length}
+use Rattle.checks.proofs.Impossible.{never}
+use Rattle.le.specs.Number.{byteAt}
+use Rattle.refusal.specs.declared.Refusal.the-variants.{EntryTableEnds}
+use Rattle.checks.specs.Checks.{decide}
+use Rattle.checks.proofs.Checks.{passed, answered}
+use Rattle.bundle.specs.declared.Bundle.{Bundle}
+use Rattle.bundle.specs.declared.Step.{Step}
+use Rattle.bundle.specs.declared.Step.the-variants.{Next, End, Refused}
+use Rattle.bundle.specs.Bundle.{widthOf, stepOf, bundleAt, bundleChecks}
+
+is-refusal : Step → Bool
+is-refusal (Next b) = false
+is-refusal End = false
+is-refusal (Refused why) = true
+
+-- What a step that goes on says: the bundle is the one that stands there, and its checks passed.
+pub record Went (table : List ℕ) (at used : ℕ) (b : Bundle) : Type 0 where
+  pub is : b ≡ bundleAt table at used
+  pub base : b .used ≡ used
+  pub some : 0 < b .count
+  pub few : b .used + b .count ≤ 65535
+  pub on : at + 2 ≤ b .at
+  pub room : b .at ≤ b .end
+  pub size : b .end ≡ b .at + widthOf (b .kind) * b .count
+  pub end : b .end ≤ length table
+
+module _ (table : List ℕ) (segments at used : ℕ) where
+  pub step-past : 0 < length table → length table ≤ at → stepOf table segments at used ≡ Refused EntryTableEnds
+  unfolding stepOf
+  step-past some past =
+      let full : length table ≡ 0 → ⊥ = λ e. omega arith in
+      let missing : length table < at + 1 = omega arith in
+      rw (ne-eqb (length table) 0 full, lt-ltb (length table) (at + 1) missing)
+
+  pub step-end : at < length table → byteAt table at ≡ 0 → stepOf table segments at used ≡ End
+  unfolding stepOf
+  step-end inside none =
+      let full : length table ≡ 0 → ⊥ = λ e. omega arith in
+      let there : at + 1 ≤ length table = omega arith in
+      rw (ne-eqb (length table) 0 full, le-ltb (length table) (at + 1) there, eq-eqb (byteAt table at) 0 none)
+
+  pub step-bundle : at < length table → (byteAt table at ≡ 0 → ⊥) → stepOf table segments at used ≡ decide Refused (bundleChecks table segments (bundleAt table at used)) (Next (bundleAt table at used))
+  unfolding stepOf
+  step-bundle inside some =
+      let full : length table ≡ 0 → ⊥ = λ e. omega arith in
+      let there : at + 1 ≤ length table = omega arith in
+      rw (ne-eqb (length table) 0 full, le-ltb (length table) (at + 1) there, ne-eqb (byteAt table at) 0 some)
+
+  pub went : (b : Bundle) → stepOf table segments at used ≡ Next b → Went table at used b
+  unfolding stepOf bundleChecks bundleAt is-refusal
+  went b e = go (eqb (length table) 0) (ltb (length table) (at + 1)) (eqb (byteAt table at) 0) refl refl refl
+    where
+      go : (empty missing none : Bool) → eqb (length table) 0 ≡ empty → ltb (length table) (at + 1) ≡ missing → eqb (byteAt table at) 0 ≡ none → Went table at used b
+      go true missing none p q r = let z : End ≡ Next b = rw p at e in never cc
+      go false true none p q r = let z : Refused EntryTableEnds ≡ Next b = rw (p, q) at e in never cc
+      go false false true p q r = let z : End ≡ Next b = rw (p, q, r) at e in never cc
+      go false false false p q r =
+          let here = bundleAt table at used in
+          let found : decide Refused (bundleChecks table segments here) (Next here) ≡ Next b = rw (p, q, r) at e in
+          let answer = answered Refused is-refusal (λ why. refl) (bundleChecks table segments here) (Next here) (ap is-refusal found) in
+          let all = passed Refused is-refusal (λ why. refl) (bundleChecks table segments here) (Next here) (ap is-refusal found) in
+          let is : b ≡ here = cc in
+          let some : byteAt table at ≡ 0 → ⊥ = eqb-false _ 0 r in
+          let few : used + byteAt table at ≤ 65535 = ltb-false _ _ (all .1 .0) in
+          let room : at + 2 ≤ here .end = omega arith in
+          let end : here .end ≤ length table = ltb-false _ _ (all .1 .1 .0) in
+          rw is (record { is = refl; base = refl; some = omega arith; few = few; on = omega arith; room = room; size = refl; end = end })
