@@ -1,4 +1,4 @@
-// Little-endian numbers out of a slice of bytes, and the two ways in which a slice is filled (`slice`).
+// Little-endian numbers out of a slice of bytes, parts of a slice, and the two ways in which one is filled (`slice`).
 //
 // Every reader answers for every place: a byte past the end counts as 0. So no caller has to show that a place lies
 // inside, and a check of a place can be stated by itself.

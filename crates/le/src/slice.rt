@@ -1,4 +1,4 @@
-// The one copy and the one clear of a slice.
+// The one copy and the one clear of a slice, and its parts.
 ghost use mathlib.Core.Path.{_≡_};
 ghost use Prim.Native.Nat.{min};
 ghost use lib.ListN.{length, take, drop};

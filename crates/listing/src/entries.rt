@@ -15,6 +15,7 @@ ghost use Rattle.listing.specs.Text.{Wrote};
 ghost use Rattle.listing.specs.Listing.{entriesOf};
 ghost use Rattle.listing.specs.Bundles.{bundleLines, tableLines, isSound};
 
+// The count, the lines and the last line, or the refusal of the table.
 pub fn list(image: &[u8], h: Header, out: &mut [u8]) -> usize
     ensures { λ r. ⌜ Wrote (now (out .entry)) 0 (entriesOf (now (image .entry)) h) (now (out .exit)) r ⌝ }
 {
