@@ -4,10 +4,10 @@ use mathlib.Core.Path.{refl}
 use Rattle.le.specs.Number.{number}
 use Rattle.header.specs.Header.{headerOf, headerChecks, tablesOf, leaves, onHeader, lacks}
 use Rattle.bundle.specs.Bundle.{kindOf, unsoundFrom, bundleAt, bundleChecks, stepOf}
-use Rattle.entry.specs.Table.{bundlesFrom, tableOf, chosen, slotIn}
+use Rattle.entry.specs.Table.{bundlesFrom, tableOf, slotIn}
 use Rattle.entry.specs.Ordinal.{ordinalIn, ordinalOf}
 use Rattle.entry.specs.Examples.{All, examples}
 
 pub hold : All examples
-unfolding number headerOf headerChecks tablesOf leaves onHeader lacks kindOf unsoundFrom bundleAt bundleChecks stepOf bundlesFrom tableOf chosen slotIn ordinalIn ordinalOf
+unfolding number headerOf headerChecks tablesOf leaves onHeader lacks kindOf unsoundFrom bundleAt bundleChecks stepOf bundlesFrom tableOf slotIn ordinalIn ordinalOf
 hold = (refl, (refl, (refl, (refl, (refl, (refl, (refl, (refl, (refl, (refl, tt))))))))))

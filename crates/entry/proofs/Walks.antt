@@ -10,12 +10,12 @@ use Rattle.entry.specs.declared.Found.{Found}
 use Rattle.entry.specs.declared.Walked.the-variants as walked
 use Rattle.bundle.specs.declared.Answer.the-variants.{Refused}
 use Rattle.bundle.specs.Bundle.{entryOf}
-use Rattle.entry.specs.Table.{Table, Sound, Unsound, walkOf, slotIn, noSlot, ordinalsIn}
+use Rattle.entry.specs.Table.{Table, Sound, Unsound, walkOf, slotIn, ordinalsIn}
 use Rattle.entry.specs.Ordinal.{inTable}
 
 pub sound-answer : (table : List ℕ) (t : Table) (number : ℕ) (f : Found) → walkOf t number ≡ walked.Sound f → inTable table t number ≡ entryOf (f .slot .kind) (drop (f .slot .at) table)
 sound-answer table (Sound bs) number f e =
-    let is : f ≡ record { ordinals = ordinalsIn bs; slot = slotIn noSlot bs number } = cc in
+    let is : f ≡ record { ordinals = ordinalsIn bs; slot = slotIn bs number } = cc in
     rw is
 sound-answer table (Unsound why) number f e = never cc
 

@@ -2,7 +2,7 @@
 use mathlib.Core.Path.{_≡_}
 use mathlib.Core.Logic.{_⊎_}
 use mathlib.Core.List.{List, [], _∷_}
-use Prim.Native.Nat.{ℕ, _+_, _*_, _-_, _≤_, _<_}
+use Prim.Native.Nat.{ℕ, _+_, _≤_, _<_}
 use lib.ListN.{drop}
 use Rattle.header.specs.declared.Header.{Header}
 use Rattle.bundle.specs.declared.Kind.the-variants.{Null}
@@ -10,8 +10,8 @@ use Rattle.bundle.specs.declared.Bundle.{Bundle}
 use Rattle.bundle.specs.declared.Entry.{Entry}
 use Rattle.bundle.specs.declared.Answer.{Answer}
 use Rattle.bundle.specs.declared.Answer.the-variants.{Accepted}
-use Rattle.bundle.specs.Bundle.{widthOf, entryOf}
-use Rattle.entry.specs.Table.{Sound, tableOf}
+use Rattle.bundle.specs.Bundle.{entryOf}
+use Rattle.entry.specs.Table.{Sound, tableOf, slotOf}
 use Rattle.entry.specs.Ordinal.{tableBytes, ordinalOf}
 
 -- That a bundle stands in a list.
@@ -29,7 +29,7 @@ pub record Covered (image : List ℕ) (h : Header) (number : ℕ) (b : Bundle) :
 
 -- The entry of an ordinal in a bundle that covers it.
 abbrev pub entryIn : List ℕ → Header → ℕ → Bundle → Answer
-entryIn image h number b = entryOf (b .kind) (drop (b .at + widthOf (b .kind) * (number - 1 - b .used)) (tableBytes image h))
+entryIn image h number b = entryOf (b .kind) (drop (slotOf b number .at) (tableBytes image h))
 
 -- "An ordinal resolves": it is accepted, with some entry.
 abbrev pub Resolves : List ℕ → ℕ → Type 0

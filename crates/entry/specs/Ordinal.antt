@@ -7,7 +7,7 @@ use Rattle.header.specs.declared.Header.{Header}
 use Rattle.bundle.specs.declared.Answer.{Answer}
 use Rattle.bundle.specs.declared.Answer.the-variants.{Refused}
 use Rattle.bundle.specs.Bundle.{entryOf}
-use Rattle.entry.specs.Table.{Table, Sound, Unsound, tableOf, slotIn, noSlot}
+use Rattle.entry.specs.Table.{Table, Sound, Unsound, tableOf, slotIn}
 
 -- "04 entry table, 06 its bytes".
 abbrev pub tableBytes : List ℕ → Header → List ℕ
@@ -16,7 +16,7 @@ tableBytes image h = take (h .entries .count) (drop (h .entries .at) image)
 -- "the whole table is walked first [...], then 15".
 abbrev pub inTable : List ℕ → Table → ℕ → Answer
 inTable table (Sound bs) number =
-    let slot = slotIn noSlot bs number in
+    let slot = slotIn bs number in
     entryOf (slot .kind) (drop (slot .at) table)
 inTable table (Unsound why) number = Refused why
 

@@ -46,18 +46,18 @@ tableOf table segments = bundlesFrom (suc (length table)) table segments 0 0
 abbrev pub covers : Bundle → ℕ → Bool
 covers b number = ltb (b .used) number && leb number (b .used + b .count)
 
--- The slot of an ordinal in a bundle that covers it, or else the slot `other`.
-unfoldable pub chosen : Slot → Bundle → ℕ → Slot
-chosen other b number = cond (covers b number) (record { kind = b .kind; at = b .at + widthOf (b .kind) * (number - 1 - b .used) }) other
+-- The slot of an ordinal in a bundle that covers it: the entries stand one behind the other.
+abbrev pub slotOf : Bundle → ℕ → Slot
+slotOf b number = record { kind = b .kind; at = b .at + widthOf (b .kind) * (number - 1 - b .used) }
 
 -- The slot of an ordinal that no bundle covers.
 abbrev pub noSlot : Slot
 noSlot = record { kind = Null; at = 0 }
 
--- The slot of an ordinal in the bundle that covers it: no ordinal is covered twice.
-unfoldable pub slotIn : Slot → List Bundle → ℕ → Slot
-slotIn other [] number = other
-slotIn other (b ∷ bs) number = slotIn (chosen other b number) bs number
+-- The slot of an ordinal: in the bundle that covers it.
+unfoldable pub slotIn : List Bundle → ℕ → Slot
+slotIn [] number = noSlot
+slotIn (b ∷ bs) number = cond (covers b number) (slotOf b number) (slotIn bs number)
 
 -- How many ordinals there are, null ones too.
 unfoldable pub ordinalsIn : List Bundle → ℕ
@@ -66,5 +66,5 @@ ordinalsIn (b ∷ bs) = b .count + ordinalsIn bs
 
 -- What a walk of the table finds.
 abbrev pub walkOf : Table → ℕ → walk.Walked
-walkOf (Sound bs) number = walks.Sound (record { ordinals = ordinalsIn bs; slot = slotIn noSlot bs number })
+walkOf (Sound bs) number = walks.Sound (record { ordinals = ordinalsIn bs; slot = slotIn bs number })
 walkOf (Unsound why) number = walks.Unsound why

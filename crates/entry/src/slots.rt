@@ -2,8 +2,9 @@
 use crate::Slot;
 use bundle::Bundle;
 ghost use mathlib.Core.Path.{_≡_};
+ghost use mathlib.Core.Bool.{cond};
 ghost use Prim.Native.Nat.{_^_, _<_};
-ghost use Rattle.entry.specs.Table.{chosen, covers};
+ghost use Rattle.entry.specs.Table.{covers, slotOf};
 
 // Whether a bundle covers an ordinal.
 fn covers(b: Bundle, number: u32) -> bool
@@ -19,7 +20,7 @@ fn covers(b: Bundle, number: u32) -> bool
 // The ordinal's slot in a bundle that covers it, or else the slot `other`.
 pub fn choose(other: Slot, b: Bundle, number: u32) -> Slot
     requires { ⌜ b .at < 2 ^ 63 ⌝ }
-    ensures { λ r. ⌜ r ≡ chosen other b number ⌝ }
+    ensures { λ r. ⌜ r ≡ cond (covers b number) (slotOf b number) other ⌝ }
 {
     if covers(b, number) {
         let kind = b.kind;

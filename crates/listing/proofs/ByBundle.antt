@@ -14,7 +14,8 @@ use Rattle.bundle.specs.Bundle.{widthOf, entryOf}
 use Rattle.entry.specs.Table.{Sound, tableOf, ordinalsIn}
 use Rattle.entry.specs.Ordinal.{inTable}
 use Rattle.entry.specs.Covered.{Among}
-use Rattle.entry.proofs.Resolves.{Follow, sound-follow, entry-in}
+use Rattle.entry.proofs.Follow.{Follow, sound-follow}
+use Rattle.entry.proofs.Resolves.{entry-in}
 use Rattle.listing.specs.Listing.{answerLine, linesFrom}
 use Rattle.listing.specs.Bundles.{slotLines, bundleLines, bundlesLines}
 

@@ -4,7 +4,6 @@ use mathlib.Core.Path.{_∙_, sym}
 use Prim.Native.Nat.{ℕ, _+_, _*_, _-_, _^_, _≤_, _<_}
 use native.Mathlib.Omega.{arith}
 use Rattle.le.proofs.Product.{product-below}
-use Rattle.entry.specs.Table.{chosen}
 use Rattle.entry.proofs.Covers.{covered}
 use borrow.Author.Needs.{needs}
 use Rattle.entry.proofs.slots.choose.Statement.{statement}
@@ -52,11 +51,9 @@ add-t11 c =
     record { fits = fits }
 
 returns : tie.Need-returns
-unfolding chosen
 returns c = rw (sym (c .before .before .before .before .covers .ensures) ∙ c .before .before .before .if1 .taken, c .before .width .ensures .0)
 
 returns-2 : tie.Need-returns-2
-unfolding chosen
 returns-2 c = rw (sym (c .before .covers .ensures) ∙ c .if1 .left)
 
 pub choose-spec : {M : Type 1} → statement M

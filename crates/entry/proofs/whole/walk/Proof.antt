@@ -2,7 +2,8 @@
 -- the whole table gives.
 -- Assumes nothing.
 use mathlib.Core.Path.{_≡_, _∙_, refl, ap, sym}
-use mathlib.Core.List.{[]}
+use mathlib.Core.Bool.{cond}
+use mathlib.Core.List.{List, []}
 use Prim.Native.Nat.{ℕ, _+_, _-_, _^_, _≤_, _<_}
 use native.Mathlib.Omega.{arith}
 use borrow.Author.Needs.{needs}
@@ -12,26 +13,29 @@ use Rattle.bundle.specs.declared.Bundle.{Bundle}
 use Rattle.entry.specs.declared.Slot.{Slot}
 use Rattle.entry.specs.declared.Walked.{Walked}
 use Rattle.entry.specs.declared.Walked.the-variants as walked
-use Rattle.entry.specs.Table.{Table, Sound, Unsound, after, tableOf, walkOf, ordinalsIn, slotIn, noSlot, chosen}
+use Rattle.entry.specs.Table.{Table, Sound, Unsound, after, tableOf, walkOf, ordinalsIn, covers, slotOf, noSlot}
 use Rattle.bundle.proofs.Went.{Went, went}
+use Rattle.entry.proofs.Follow.{sound-follow, lastIn, last-is-first}
 use Rattle.entry.proofs.Turns.{tableAt, unrolled, whole}
 use Rattle.entry.proofs.whole.walk.Statement.{statement}
 use Rattle.entry.proofs.whole.walk.Tie as tie
 
 -- What is found in all, where `used` ordinals and the slot were found before the table `t`.
 abbrev found : ℕ → Slot → ℕ → Table → Walked
-found used slot number (Sound bs) = walked.Sound (record { ordinals = used + ordinalsIn bs; slot = slotIn slot bs number })
+found used slot number (Sound bs) = walked.Sound (record { ordinals = used + ordinalsIn bs; slot = lastIn slot bs number })
 found used slot number (Unsound why) = walked.Unsound why
 
-found-first : (number : ℕ) (t : Table) → found 0 noSlot number t ≡ walkOf t number
-found-first number (Sound bs) = let all : 0 + ordinalsIn bs ≡ ordinalsIn bs = omega arith in rw all
-found-first number (Unsound why) = refl
+found-all : (table : List ℕ) (segments number : ℕ) (t : Table) → tableOf table segments ≡ t → found 0 noSlot number t ≡ walkOf t number
+found-all table segments number (Sound bs) e =
+    let all : 0 + ordinalsIn bs ≡ ordinalsIn bs = omega arith in
+    rw (all, last-is-first 0 number bs (sound-follow table segments bs e))
+found-all table segments number (Unsound why) e = refl
 
-found-more : (used number : ℕ) (slot : Slot) (b : Bundle) (t : Table) → b .used ≡ used → found used slot number (after b t) ≡ found (b .used + b .count) (chosen slot b number) number t
-unfolding ordinalsIn slotIn
+found-more : (used number : ℕ) (slot : Slot) (b : Bundle) (t : Table) → b .used ≡ used → found used slot number (after b t) ≡ found (b .used + b .count) (cond (covers b number) (slotOf b number) slot) number t
+unfolding ordinalsIn lastIn
 found-more used number slot b (Sound bs) e =
     let sum : used + (b .count + ordinalsIn bs) ≡ b .used + b .count + ordinalsIn bs = omega arith in
-    ap (λ (n : ℕ). walked.Sound (record { ordinals = n; slot = slotIn (chosen slot b number) bs number })) sum
+    ap (λ (n : ℕ). walked.Sound (record { ordinals = n; slot = lastIn (cond (covers b number) (slotOf b number) slot) bs number })) sum
 found-more used number slot b (Unsound why) e = refl
 
 abbrev Inv-loop : tie.InvT-loop
@@ -50,8 +54,8 @@ next-is c =
 loop-holds : tie.Need-loop-holds Inv-loop μ-loop
 loop-holds c =
     let a = c .before .args in
-    let t = tableAt (now (a .table)) (a .segments) 0 0 in
-    (omega arith, found-first (a .number) t ∙ ap (λ t. walkOf t (a .number)) (sym (whole (now (a .table)) (a .segments))))
+    let t = tableOf (now (a .table)) (a .segments) in
+    (omega arith, sym (ap (found 0 noSlot (a .number)) (whole (now (a .table)) (a .segments))) ∙ found-all (now (a .table)) (a .segments) (a .number) t refl)
 
 next-requires : tie.Need-next-requires Inv-loop μ-loop
 next-requires c κs = search needs
@@ -71,7 +75,7 @@ enum-told : tie.Need-enum-told Inv-loop μ-loop
 enum-told c = search needs
 
 returns-2 : tie.Need-returns-2 Inv-loop μ-loop
-unfolding ordinalsIn slotIn
+unfolding ordinalsIn lastIn
 returns-2 c =
     let l = c .before .before .before .loop in
     let a = c .before .before .before .before .before .args in
