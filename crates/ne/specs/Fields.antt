@@ -1,11 +1,30 @@
 -- The fields of each C result, in the order of its struct.
-use Prim.Native.Nat.{ℕ}
+use Prim.Native.Nat.{ℕ, _^_, _<_}
 use mathlib.Core.List.{List, [], _∷_}
+use Rattle.names.specs.declared.Answer as names
+use Rattle.names.specs.declared.Answer.the-variants.{Accepted, Refused}
 use Rattle.ne.specs.declared.NeSegment.{NeSegment}
 use Rattle.ne.specs.declared.NeOrdinal.{NeOrdinal}
+use Rattle.ne.specs.declared.NeName.{NeName}
+use Rattle.ne.specs.declared.NeModule.{NeModule}
+use Rattle.ne.specs.declared.NeResource.{NeResource}
 
 abbrev pub segmentFields : NeSegment → List ℕ
 segmentFields r = r .refusal ∷ r .start ∷ r .stored ∷ r .flags ∷ r .allocation ∷ r .records ∷ []
 
 abbrev pub ordinalFields : NeOrdinal → List ℕ
 ordinalFields r = r .refusal ∷ r .segment ∷ r .offset ∷ r .flag ∷ []
+
+abbrev pub nameFields : NeName → List ℕ
+nameFields r = r .refusal ∷ r .number ∷ r .«text_at» ∷ r .«text_len» ∷ r .ordinal ∷ []
+
+abbrev pub moduleFields : NeModule → List ℕ
+moduleFields r = r .refusal ∷ r .«text_at» ∷ r .«text_len» ∷ []
+
+abbrev pub resourceFields : NeResource → List ℕ
+resourceFields r = r .refusal ∷ r .kind ∷ r .id ∷ r .flags ∷ r .data_at ∷ r .data_len ∷ []
+
+-- That the numbers of a name's answer fit the fields, as those of every answer to a query do.
+abbrev pub NameFits : names.Answer → Type 0
+NameFits (Accepted n) = (n .number < 2 ^ 32) × (n .at < 2 ^ 32)
+NameFits (Refused why) = Unit

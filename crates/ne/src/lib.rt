@@ -1,10 +1,18 @@
 // The C interface: each function asks the library and hands its answer over as numbers (`include/ne.h`).
+mod results;
+
 ghost use mathlib.Core.Path.{_≡_};
 ghost use Rattle.segment.specs.Segment.{segmentOf};
 ghost use Rattle.segment.specs.Values as segment;
 ghost use Rattle.entry.specs.Ordinal.{ordinalOf};
 ghost use Rattle.bundle.specs.Values as entry;
-ghost use Rattle.ne.specs.Fields.{segmentFields, ordinalFields};
+ghost use Rattle.names.specs.Names.{nameByNumber, nameByBytes};
+ghost use Rattle.names.specs.Values as names;
+ghost use Rattle.imports.specs.Module.{moduleOf};
+ghost use Rattle.imports.specs.Values as imported;
+ghost use Rattle.resources.specs.Resource.{resourceByNumber, resourceByWords};
+ghost use Rattle.resources.specs.Values as resources;
+ghost use Rattle.ne.specs.Fields.{segmentFields, ordinalFields, nameFields, moduleFields, resourceFields};
 
 #[repr(C)]
 pub struct NeSegment {
@@ -22,6 +30,33 @@ pub struct NeOrdinal {
     pub segment: u32,
     pub offset: u32,
     pub flag: u32,
+}
+
+#[repr(C)]
+pub struct NeName {
+    pub refusal: u32,
+    pub number: u32,
+    pub text_at: u32,
+    pub text_len: u32,
+    pub ordinal: u32,
+}
+
+#[repr(C)]
+pub struct NeModule {
+    pub refusal: u32,
+    pub text_at: u32,
+    pub text_len: u32,
+}
+
+#[repr(C)]
+pub struct NeResource {
+    pub refusal: u32,
+    // `type` in the C header.
+    pub kind: u32,
+    pub id: u32,
+    pub flags: u32,
+    pub data_at: u32,
+    pub data_len: u32,
 }
 
 #[no_mangle]
@@ -78,4 +113,55 @@ pub extern "C" fn ne_ordinal(image: &[u8], number: u32) -> NeOrdinal
             }
         }
     }
+}
+
+#[no_mangle]
+pub extern "C" fn ne_name_by_number(image: &[u8], number: u32) -> NeName
+    ensures { λ r. ⌜ nameFields r ≡ names.valuesOf (nameByNumber (now (image .entry)) number) ⌝ }
+{
+    results::name(names::by_number(image, number))
+}
+
+#[no_mangle]
+pub extern "C" fn ne_name_by_bytes(image: &[u8], name: &[u8]) -> NeName
+    ensures { λ r. ⌜ nameFields r ≡ names.valuesOf (nameByBytes (now (image .entry)) (now (name .entry))) ⌝ }
+{
+    results::name(names::by_bytes(image, name))
+}
+
+#[no_mangle]
+pub extern "C" fn ne_module(image: &[u8], number: u32) -> NeModule
+    ensures { λ r. ⌜ moduleFields r ≡ imported.valuesOf (moduleOf (now (image .entry)) number) ⌝ }
+{
+    let answer = imports::by_number(image, number);
+    match answer {
+        imports::Answer::Refused(why) => NeModule {
+            refusal: refusal::number(why),
+            text_at: 0,
+            text_len: 0,
+        },
+        imports::Answer::Accepted(text) => {
+            let text_at = text.at as u32;
+            let text_len = text.len as u32;
+            NeModule {
+                refusal: 0,
+                text_at: text_at,
+                text_len: text_len,
+            }
+        }
+    }
+}
+
+#[no_mangle]
+pub extern "C" fn ne_resource_by_number(image: &[u8], number: u32) -> NeResource
+    ensures { λ r. ⌜ resourceFields r ≡ resources.valuesOf (resourceByNumber (now (image .entry)) number) ⌝ }
+{
+    results::resource(resources::by_number(image, number))
+}
+
+#[no_mangle]
+pub extern "C" fn ne_resource_by_words(image: &[u8], kind: u32, id: u32) -> NeResource
+    ensures { λ r. ⌜ resourceFields r ≡ resources.valuesOf (resourceByWords (now (image .entry)) kind id) ⌝ }
+{
+    results::resource(resources::by_words(image, kind, id))
 }

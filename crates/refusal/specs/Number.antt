@@ -1,7 +1,7 @@
 -- Document 01, "Refusal numbers and their order": the number of each refusal.
 use Prim.Native.Nat.{ℕ}
 use Rattle.refusal.specs.declared.Refusal.{Refusal}
-use Rattle.refusal.specs.declared.Refusal.the-variants.{ImageShort, ImageLong, NoMz, NePlace, NoNe, Shift, SegmentTable, ModuleTable, EntryTable, NonresidentTable, NoSuchNumber, SegmentOutside, Iterated, AllocationShort, EntryTableEnds, EntryUnsound, OrdinalsOver, NoSuchOrdinal}
+use Rattle.refusal.specs.declared.Refusal.the-variants.{ImageShort, ImageLong, NoMz, NePlace, NoNe, Shift, SegmentTable, ModuleTable, EntryTable, NonresidentTable, NoSuchNumber, SegmentOutside, Iterated, AllocationShort, EntryTableEnds, EntryUnsound, OrdinalsOver, NoSuchOrdinal, ResidentNames, NonresidentNames, ImportedString, NoSuchName, ResourceTable, ResourceShift, NoSuchResource, ResourceOutside}
 
 abbrev pub numberOf : Refusal → ℕ
 -- "image under 64 bytes"
@@ -37,3 +37,16 @@ numberOf EntryUnsound = 13
 numberOf OrdinalsOver = 14
 -- "ordinal not covered, or null"
 numberOf NoSuchOrdinal = 15
+-- "unsound name list or string"
+numberOf ResidentNames = 16
+numberOf NonresidentNames = 16
+numberOf ImportedString = 16
+-- "name not found"
+numberOf NoSuchName = 17
+-- "resource table leaves the image, or its shift is over 15"
+numberOf ResourceTable = 18
+numberOf ResourceShift = 18
+-- "resource not found"
+numberOf NoSuchResource = 19
+-- "found resource's data leaves the image"
+numberOf ResourceOutside = 20

@@ -22,6 +22,14 @@ pub enum Refusal {
     EntryUnsound,
     OrdinalsOver,
     NoSuchOrdinal,
+    ResidentNames,
+    NonresidentNames,
+    ImportedString,
+    NoSuchName,
+    ResourceTable,
+    ResourceShift,
+    NoSuchResource,
+    ResourceOutside,
 }
 
 // The number of a refusal.
@@ -47,5 +55,13 @@ pub fn number(why: Refusal) -> u32
         Refusal::EntryUnsound => 13,
         Refusal::OrdinalsOver => 14,
         Refusal::NoSuchOrdinal => 15,
+        Refusal::ResidentNames => 16,
+        Refusal::NonresidentNames => 16,
+        Refusal::ImportedString => 16,
+        Refusal::NoSuchName => 17,
+        Refusal::ResourceTable => 18,
+        Refusal::ResourceShift => 18,
+        Refusal::NoSuchResource => 19,
+        Refusal::ResourceOutside => 20,
     }
 }

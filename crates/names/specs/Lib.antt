@@ -1,0 +1,5 @@
+pub mod Text
+pub mod Names
+pub mod Values
+pub mod InImage
+pub mod Search

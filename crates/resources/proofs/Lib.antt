@@ -1,0 +1,4 @@
+pub mod InBlock
+pub mod Blocks
+pub mod Answers
+pub mod Bounds

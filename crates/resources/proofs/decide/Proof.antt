@@ -1,0 +1,44 @@
+-- `resources::decide` meets its contract: the test is the definition's.
+-- Assumes nothing.
+use mathlib.Core.Path.{_≡_, _∙_, sym}
+use Prim.Native.Nat.{_+_, _≤_, _<_}
+use native.Mathlib.Omega.{arith}
+use borrow.Author.Tests.{lt-ltb, le-ltb}
+use Rattle.resources.specs.Resource.{dataChecked}
+use borrow.Author.Needs.{needs}
+use Rattle.resources.proofs.decide.Statement.{statement}
+use Rattle.resources.proofs.decide.Tie as tie
+
+enum-told : tie.Need-enum-told
+enum-told c = search needs
+
+enum-known-found : tie.Need-enum-known-found
+enum-known-found c = search needs
+
+cast-if1 : tie.Need-cast-if1
+cast-if1 c = search needs
+
+cast-if1-2 : tie.Need-cast-if1-2
+cast-if1-2 c = search needs
+
+add-if1 : tie.Need-add-if1
+add-if1 c = search needs
+
+returns : tie.Need-returns
+unfolding dataChecked
+returns c = rw (c .before .before .before .before .found .given .1, lt-ltb _ _ (c .if1 .taken))
+
+returns-2 : tie.Need-returns-2
+returns-2 c = rw (c .enum-told .given .1)
+
+returns-3 : tie.Need-returns-3
+unfolding dataChecked
+returns-3 c =
+    let r = c .before .before .before .before .found .given .0 .0 in
+    let inside : r .at + r .len ≤ c .before .before .before .before .before .before .args .len = omega arith in
+    rw (c .before .before .before .before .found .given .1, le-ltb _ _ inside)
+
+pub decide-spec : {M : Type 1} → statement M
+decide-spec =
+    tie.close
+    (tie.spec enum-told enum-known-found cast-if1 cast-if1-2 add-if1 returns returns-2 returns-3)
