@@ -2,39 +2,24 @@
 -- of which it holds, holds of the table's bundles from any place on.
 -- Assumes nothing.
 use mathlib.Core.Path.{_≡_, refl}
-use mathlib.Core.List.{List, [], _∷_}
-use Prim.Native.Nat.{ℕ, zero, suc, _+_}
+use mathlib.Core.List.{List, [], _∷_, _++_}
+use Prim.Native.Nat.{ℕ, _+_}
 use lib.ListN.{length}
-use Rattle.checks.proofs.Impossible.{never}
+use Rattle.refusal.specs.declared.Refusal.the-variants.{EntryTableEnds}
+use Rattle.lists.specs.Table.{Next, Sound}
+use Rattle.lists.proofs.Induction as lists
 use Rattle.bundle.specs.declared.Bundle.{Bundle}
-use Rattle.bundle.specs.declared.Step.{Step}
-use Rattle.bundle.specs.declared.Step.the-variants.{Next, End, Refused}
 use Rattle.bundle.specs.Bundle.{stepOf}
-use Rattle.bundle.proofs.Went.{Went, went}
-use Rattle.entry.specs.Table.{Table, Sound, Unsound, after, bundlesFrom, tableOf}
+use Rattle.bundle.proofs.Went.{Went}
+use Rattle.entry.specs.Table.{Place, bundleStep, tableOf}
+use Rattle.entry.proofs.Turns.{goes-on}
 
 module _ (table : List ℕ) (segments : ℕ) (P : ℕ → ℕ → List Bundle → Type 0) (none : (at used : ℕ) → P at used []) (more : (at used : ℕ) (b : Bundle) (bs : List Bundle) → Went table at used b → P (b .end) (b .used + b .count) bs → P at used (b ∷ bs)) where
-  behind : (at used : ℕ) (b : Bundle) (t : Table) (bs : List Bundle) → Went table at used b → ((rest : List Bundle) → t ≡ Sound rest → P (b .end) (b .used + b .count) rest) → after b t ≡ Sound bs → P at used bs
-  behind at used b (Unsound why) bs w ih e = never cc
-  behind at used b (Sound rest) bs w ih e =
-      let is : bs ≡ b ∷ rest = cc in
-      rw is (more at used b rest w (ih rest refl))
-
-  from : (turns at used : ℕ) (bs : List Bundle) → bundlesFrom turns table segments at used ≡ Sound bs → P at used bs
-  unfolding bundlesFrom
-  from zero at used bs e = never cc
-  from (suc turns) at used bs e = go (stepOf table segments at used) refl (λ at used bs q. from turns at used bs q)
-    where
-      go : (s : Step) → stepOf table segments at used ≡ s → ((at used : ℕ) (bs : List Bundle) → bundlesFrom turns table segments at used ≡ Sound bs → P at used bs) → P at used bs
-      go (Refused why) q ih = let z : Unsound why ≡ Sound bs = rw q at e in never cc
-      go End q ih =
-          let z : Sound [] ≡ Sound bs = rw q at e in
-          let is : bs ≡ [] = cc in
-          rw is (none at used)
-      go (Next b) q ih =
-          let z : after b (bundlesFrom turns table segments (b .end) (b .used + b .count)) ≡ Sound bs = rw q at e in
-          behind at used b (bundlesFrom turns table segments (b .end) (b .used + b .count)) bs (went table segments at used b q) (λ rest h. ih (b .end) (b .used + b .count) rest h) z
+  step : (p : Place) (bs : List Bundle) (t : Place) (rest : List Bundle) → bundleStep table segments p ≡ Next bs t → P (t .at) (t .used) rest → P (p .at) (p .used) (bs ++ rest)
+  step p bs t rest e h =
+      let g = goes-on table segments p bs t (stepOf table segments (p .at) (p .used)) refl e in
+      rw (g .1 .1) (more (p .at) (p .used) (g .0) rest (g .1 .0) (rw (g .1 .2) at h))
 
   pub sound-table : (bs : List Bundle) → tableOf table segments ≡ Sound bs → P 0 0 bs
   unfolding tableOf
-  sound-table bs e = from (suc (length table)) 0 0 bs e
+  sound-table bs e = lists.sound-table (bundleStep table segments) EntryTableEnds (λ (p : Place) (bs : List Bundle). P (p .at) (p .used) bs) (λ p q. none (p .at) (p .used)) step (length table) (record { at = 0; used = 0 }) bs e

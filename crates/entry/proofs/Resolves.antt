@@ -20,10 +20,10 @@ use Rattle.bundle.specs.declared.Kind.the-variants.{Null, Movable, Fixed}
 use Rattle.bundle.specs.declared.Bundle.{Bundle}
 use Rattle.entry.specs.declared.Slot.{Slot}
 use Rattle.bundle.specs.declared.Entry.{Entry}
-use Rattle.bundle.specs.declared.Answer as answer
 use Rattle.bundle.specs.declared.Answer.the-variants as answers
 use Rattle.bundle.specs.Bundle.{entryOf}
-use Rattle.entry.specs.Table.{Table, Sound, Unsound, tableOf, covers, slotOf, slotIn, noSlot}
+use Rattle.lists.specs.Table.{Sound, Unsound}
+use Rattle.entry.specs.Table.{EntryTable, tableOf, covers, slotOf, slotIn, noSlot}
 use Rattle.entry.specs.Ordinal.{tableBytes, inTable, ordinalIn, ordinalOf}
 use Rattle.entry.specs.Covered.{Among, Covered, entryIn, Resolves, IsCovered}
 use Rattle.entry.proofs.Covers.{covered}
@@ -110,7 +110,7 @@ module _ (image : List ℕ) (h : Header) (number : ℕ) (good : headerOf image �
   pub exactly : Resolves image number ↔ IsCovered image h number
   exactly = (λ r. go (r .0) (r .1) (tableOf (tableBytes image h) (h .segments .count)) refl, back)
     where
-      go : (e : Entry) → ordinalOf image number ≡ answers.Accepted e → (t : Table) → tableOf (tableBytes image h) (h .segments .count) ≡ t → IsCovered image h number
+      go : (e : Entry) → ordinalOf image number ≡ answers.Accepted e → (t : EntryTable) → tableOf (tableBytes image h) (h .segments .count) ≡ t → IsCovered image h number
       go e accepted (Sound bs) q = covering bs e q accepted
       go e accepted (Unsound why) q = let z : answers.Refused why ≡ answers.Accepted e = sym (refused-is why q) ∙ accepted in never cc
 

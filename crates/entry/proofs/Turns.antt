@@ -1,67 +1,42 @@
--- The laws of the table from a place on: it doesn't matter how many turns are left over, so the table is what stands at the
--- place, and then the table behind it.
+-- The law of the table from a place on: it is what stands at the place, and then the table behind it.
 -- Assumes nothing.
-use mathlib.Core.Path.{_≡_, refl, ap}
-use mathlib.Core.List.{List, []}
-use Prim.Native.Nat.{ℕ, zero, suc, _+_, _-_, _≤_, _<_}
+use mathlib.Core.Path.{_≡_, _∙_, refl}
+use mathlib.Core.List.{List, [], _∷_}
+use Prim.Native.Nat.{ℕ, _≤_, _<_}
 use native.Mathlib.Omega.{arith}
 use lib.ListN.{length}
+use Rattle.checks.proofs.Impossible.{never}
+use Rattle.refusal.specs.declared.Refusal.the-variants.{EntryTableEnds}
+use Rattle.lists.specs.Table as lists
+use Rattle.lists.specs.Table.{Next, Sound, Unsound, after, onStep}
+use Rattle.lists.proofs.Turns as lists-proofs
 use Rattle.bundle.specs.declared.Bundle.{Bundle}
-use Rattle.bundle.specs.declared.Step.{Step}
-use Rattle.bundle.specs.declared.Step.the-variants.{Next, End, Refused}
+use Rattle.bundle.specs.declared.Step as step
+use Rattle.bundle.specs.declared.Step.the-variants as steps
 use Rattle.bundle.specs.Bundle.{stepOf}
-use Rattle.entry.specs.Table.{Table, Sound, Unsound, after, onStep, bundlesFrom, tableOf}
 use Rattle.bundle.proofs.Went.{Went, went}
+use Rattle.entry.specs.Table.{Place, behind, asStep, bundleStep, EntryTable, tableOf}
 
 module _ (table : List ℕ) (segments : ℕ) where
-  -- More turns than enough change nothing.
-  abbrev Enough : ℕ → Type 0
-  Enough f = (g at used : ℕ) → length table ≤ at + f → length table ≤ at + g → bundlesFrom (suc f) table segments at used ≡ bundlesFrom (suc g) table segments at used
+  -- A step that goes on does so over a bundle that passed its checks.
+  pub goes-on : (p : Place) (bs : List Bundle) (t : Place) (s : step.Step) → stepOf table segments (p .at) (p .used) ≡ s → asStep s ≡ Next bs t → (b : Bundle) × (Went table (p .at) (p .used) b × (bs ≡ b ∷ []) × (t ≡ behind b))
+  goes-on p bs t (steps.Refused why) e q = never cc
+  goes-on p bs t steps.End e q = never cc
+  goes-on p bs t (steps.Next b) e q = (b, (went table segments (p .at) (p .used) b e, cc, cc))
 
-  behind : (f g at used : ℕ) (b : Bundle) → ((f′ : ℕ) → f ≡ suc f′ → Enough f′) → length table ≤ at + f → length table ≤ at + g → Went table at used b → bundlesFrom f table segments (b .end) (b .used + b .count) ≡ bundlesFrom g table segments (b .end) (b .used + b .count)
-  behind zero g at used b ih hf hg w = absurd (omega (arith, w .on, w .room, w .end))
-  behind (suc f) zero at used b ih hf hg w = absurd (omega (arith, w .on, w .room, w .end))
-  behind (suc f) (suc g) at used b ih hf hg w =
-      let left : length table ≤ b .end + f = omega (arith, w .on, w .room) in
-      let right : length table ≤ b .end + g = omega (arith, w .on, w .room) in
-      ih f refl g (b .end) (b .used + b .count) left right
-
-  one-turn : (f : ℕ) → ((f′ : ℕ) → f ≡ suc f′ → Enough f′) → Enough f
-  unfolding bundlesFrom
-  one-turn f ih g at used hf hg = go (stepOf table segments at used) refl
-    where
-      go : (s : Step) → stepOf table segments at used ≡ s → onStep s Unsound (Sound []) (λ b. after b (bundlesFrom f table segments (b .end) (b .used + b .count))) ≡ onStep s Unsound (Sound []) (λ b. after b (bundlesFrom g table segments (b .end) (b .used + b .count)))
-      go (Refused why) e = refl
-      go End e = refl
-      go (Next b) e = ap (after b) (behind f g at used b ih hf hg (went table segments at used b e))
-
-  enough : (f : ℕ) → Enough f
-  enough zero = one-turn zero (λ f′ e. absurd (omega arith))
-  enough (suc f) = one-turn (suc f) (λ f′ e. let same : f′ ≡ f = omega arith in rw same (enough f))
+  on : (p : Place) (bs : List Bundle) (t : Place) → bundleStep table segments p ≡ Next bs t → (p .at < t .at) × (t .at ≤ length table)
+  on p bs t e =
+      let g = goes-on p bs t (stepOf table segments (p .at) (p .used)) refl e in
+      let w = g .1 .0 in
+      rw (g .1 .2) (omega (arith, w .on, w .room), w .end)
 
   -- The table from a place on.
-  abbrev pub tableAt : ℕ → ℕ → Table
-  tableAt at used = bundlesFrom (suc (length table - at)) table segments at used
+  abbrev pub tableAt : ℕ → ℕ → EntryTable
+  tableAt at used = lists.tableOf (bundleStep table segments) EntryTableEnds (length table) (record { at = at; used = used })
 
-  at-least : (turns at used : ℕ) → at ≤ length table → length table < at + turns → bundlesFrom turns table segments at used ≡ tableAt at used
-  at-least zero at used h k = absurd (omega arith)
-  at-least (suc turns) at used h k =
-      let left : length table ≤ at + turns = omega arith in
-      let right : length table ≤ at + (length table - at) = omega arith in
-      enough turns (length table - at) at used left right
-
-  pub unrolled : (at used : ℕ) → at ≤ length table → tableAt at used ≡ onStep (stepOf table segments at used) Unsound (Sound []) (λ b. after b (tableAt (b .end) (b .used + b .count)))
-  unfolding bundlesFrom
-  unrolled at used h = go (stepOf table segments at used) refl
-    where
-      go : (s : Step) → stepOf table segments at used ≡ s → onStep s Unsound (Sound []) (λ b. after b (bundlesFrom (length table - at) table segments (b .end) (b .used + b .count))) ≡ onStep s Unsound (Sound []) (λ b. after b (tableAt (b .end) (b .used + b .count)))
-      go (Refused why) e = refl
-      go End e = refl
-      go (Next b) e =
-          let w = went table segments at used b e in
-          let turns : length table < b .end + (length table - at) = omega (arith, w .on, w .room) in
-          ap (after b) (at-least (length table - at) (b .end) (b .used + b .count) (w .end) turns)
+  pub unrolled : (at used : ℕ) (s : step.Step) → stepOf table segments at used ≡ s → tableAt at used ≡ onStep (asStep s) Unsound (Sound []) (λ bs t. after bs (lists.tableOf (bundleStep table segments) EntryTableEnds (length table) t))
+  unrolled at used s e = lists-proofs.unrolled (bundleStep table segments) EntryTableEnds (λ (p : Place). p .at) (length table) on (record { at = at; used = used }) ∙ rw e
 
   pub whole : tableOf table segments ≡ tableAt 0 0
   unfolding tableOf
-  whole = let all : length table - 0 ≡ length table = omega arith in rw all
+  whole = refl

@@ -7,14 +7,15 @@ use Rattle.header.specs.declared.Header.{Header}
 use Rattle.bundle.specs.declared.Answer.{Answer}
 use Rattle.bundle.specs.declared.Answer.the-variants.{Refused}
 use Rattle.bundle.specs.Bundle.{entryOf}
-use Rattle.entry.specs.Table.{Table, Sound, Unsound, tableOf, slotIn}
+use Rattle.lists.specs.Table.{Sound, Unsound}
+use Rattle.entry.specs.Table.{EntryTable, tableOf, slotIn}
 
 -- "04 entry table, 06 its bytes".
 abbrev pub tableBytes : List ℕ → Header → List ℕ
 tableBytes image h = take (h .entries .count) (drop (h .entries .at) image)
 
 -- "the whole table is walked first [...], then 15".
-abbrev pub inTable : List ℕ → Table → ℕ → Answer
+abbrev pub inTable : List ℕ → EntryTable → ℕ → Answer
 inTable table (Sound bs) number =
     let slot = slotIn bs number in
     entryOf (slot .kind) (drop (slot .at) table)

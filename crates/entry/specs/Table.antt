@@ -1,46 +1,47 @@
 -- Document 01, "Entry table": the whole table as a list of bundles.
-use Prim.Native.Nat.{ℕ, zero, suc, _+_, _*_, _-_}
+use Prim.Native.Nat.{ℕ, _+_, _*_, _-_}
 use mathlib.Core.Bool.{Bool, cond, _&&_}
 use mathlib.Core.List.{List, [], _∷_}
 use lib.ListN.{length}
 use lib.Dec.{ltb, leb}
+use Rattle.lists.specs.Table as lists
+use Rattle.lists.specs.Table.{Step, Next, End, Stop, Table, Sound, Unsound}
 use Rattle.refusal.specs.declared.Refusal.{Refusal}
 use Rattle.refusal.specs.declared.Refusal.the-variants.{EntryTableEnds}
 use Rattle.bundle.specs.declared.Kind.the-variants.{Null}
 use Rattle.bundle.specs.declared.Bundle.{Bundle}
 use Rattle.entry.specs.declared.Slot.{Slot}
 use Rattle.bundle.specs.declared.Step as step
-use Rattle.bundle.specs.declared.Step.the-variants.{Next, End, Refused}
+use Rattle.bundle.specs.declared.Step.the-variants as steps
 use Rattle.entry.specs.declared.Walked as walk
 use Rattle.entry.specs.declared.Walked.the-variants as walks
 use Rattle.bundle.specs.Bundle.{widthOf, stepOf}
 
+-- A place in the table: where it is, and how many ordinals come before it.
+pub record Place : Type 0 where
+  pub at : ℕ
+  pub used : ℕ
+
+-- The place behind a bundle.
+abbrev pub behind : Bundle → Place
+behind b = record { at = b .end; used = b .used + b .count }
+
+-- What stands at a place, as a step of the table.
+abbrev pub asStep : step.Step → Step Place Bundle Refusal
+asStep (steps.Refused why) = Stop why
+asStep steps.End = End
+asStep (steps.Next b) = Next (b ∷ []) (behind b)
+
+abbrev pub bundleStep : List ℕ → ℕ → Place → Step Place Bundle Refusal
+bundleStep table segments p = asStep (stepOf table segments (p .at) (p .used))
+
 -- A table is sound, and then it is its bundles in their order, or it is refused.
-pub data Table : Type 0 where
-  Sound : List Bundle → Table
-  Unsound : Refusal → Table
+abbrev pub EntryTable : Type 0
+EntryTable = Table Bundle Refusal
 
-abbrev pub after : Bundle → Table → Table
-after b (Sound bs) = Sound (b ∷ bs)
-after b (Unsound why) = Unsound why
-
--- For whoever goes on from a step: its refusal, the end, or what follows a bundle.
-abbrev pub onStep : {A : Type 0} → step.Step → (Refusal → A) → A → (Bundle → A) → A
-onStep (Refused why) refuse end go = refuse why
-onStep End refuse end go = end
-onStep (Next b) refuse end go = go b
-
--- The table from a place on, where `used` ordinals come before it. Each bundle takes a byte at least, so as many turns as
--- the table has bytes, and one for its end, are enough.
-unfoldable pub bundlesFrom : ℕ → List ℕ → ℕ → ℕ → ℕ → Table
-bundlesFrom zero table segments at used = Unsound EntryTableEnds
-bundlesFrom (suc turns) table segments at used =
-    onStep (stepOf table segments at used) Unsound (Sound []) λ b.
-    after b (bundlesFrom turns table segments (b .end) (b .used + b .count))
-
--- A whole table, in a module of this many segments.
-unfoldable pub tableOf : List ℕ → ℕ → Table
-tableOf table segments = bundlesFrom (suc (length table)) table segments 0 0
+-- A whole table, in a module of this many segments. It starts at its first byte, with no ordinal before it.
+unfoldable pub tableOf : List ℕ → ℕ → EntryTable
+tableOf table segments = lists.tableOf (bundleStep table segments) EntryTableEnds (length table) (record { at = 0; used = 0 })
 
 -- "Ordinals count from 1."
 abbrev pub covers : Bundle → ℕ → Bool
@@ -65,6 +66,6 @@ ordinalsIn [] = 0
 ordinalsIn (b ∷ bs) = b .count + ordinalsIn bs
 
 -- What a walk of the table finds.
-abbrev pub walkOf : Table → ℕ → walk.Walked
+abbrev pub walkOf : EntryTable → ℕ → walk.Walked
 walkOf (Sound bs) number = walks.Sound (record { ordinals = ordinalsIn bs; slot = slotIn bs number })
 walkOf (Unsound why) number = walks.Unsound why

@@ -24,7 +24,6 @@ use Rattle.imports.specs.InImage.{InImage}
 use Rattle.imports.specs.declared.Text.{Text}
 use Rattle.imports.specs.declared.Imported.{Imported}
 use Rattle.imports.specs.declared.Imported.the-variants.{Sound, Unsound}
-use Rattle.imports.specs.declared.Answer.{Answer}
 use Rattle.imports.specs.declared.Answer.the-variants.{Accepted, Refused}
 
 pub string-sound : (image : List ℕ) (h : Header) (place : ℕ) (text : Text) → stringAt image h place ≡ Sound text → InImage image text

@@ -9,7 +9,6 @@ use Rattle.refusal.specs.declared.Refusal.the-variants.{NoSuchNumber, ImportedS
 use Rattle.checks.specs.Checks.{_⇒_, decide}
 use Rattle.header.specs.Header.{headerOf, onHeader, lacks}
 use Rattle.header.specs.declared.Header.{Header}
-use Rattle.imports.specs.declared.Text.{Text}
 use Rattle.imports.specs.declared.Imported.{Imported}
 use Rattle.imports.specs.declared.Imported.the-variants.{Sound, Unsound}
 use Rattle.imports.specs.declared.Answer.{Answer}

@@ -19,7 +19,8 @@ use Rattle.bundle.specs.declared.Kind.the-variants.{Null, Movable, Fixed}
 use Rattle.bundle.specs.declared.Bundle.{Bundle}
 use Rattle.bundle.specs.declared.Entry.{Entry}
 use Rattle.bundle.specs.Bundle.{widthOf, entryOf}
-use Rattle.entry.specs.Table.{Table, Sound, Unsound, tableOf, ordinalsIn}
+use Rattle.lists.specs.Table.{Sound, Unsound}
+use Rattle.entry.specs.Table.{EntryTable, tableOf, ordinalsIn}
 use Rattle.entry.specs.Ordinal.{tableBytes}
 use Rattle.bundle.proofs.Went.{Went}
 use Rattle.entry.proofs.Induction.{sound-table}
@@ -89,7 +90,7 @@ module _ (table : List ℕ) (segments : ℕ) where
           let all = length-append (bundleLines table b) (bundlesLines table bs) in
           omega (arith, here, later, all, w .on, w .size, w .end)
 
-  table-short : (t : Table) → tableOf table segments ≡ t → length (tableListing table t) ≤ 7 * length table + 19
+  table-short : (t : EntryTable) → tableOf table segments ≡ t → length (tableListing table t) ≤ 7 * length table + 19
   table-short (Unsound why) e = let h = number-line-short (ascii "refused ") (numberOf why) in omega (arith, h)
   table-short (Sound bs) e =
       let count = number-line-short (ascii "ordinals ") (ordinalsIn bs) in

@@ -4,12 +4,13 @@ use mathlib.Core.Path.{refl}
 use Rattle.le.specs.Number.{number}
 use Rattle.header.specs.Header.{headerOf, headerChecks, tablesOf, leaves, onHeader, lacks}
 use Rattle.bundle.specs.Bundle.{kindOf, unsoundFrom, bundleAt, bundleChecks, stepOf}
-use Rattle.entry.specs.Table.{bundlesFrom, tableOf, slotIn, ordinalsIn}
+use Rattle.lists.specs.Table as lists
+use Rattle.entry.specs.Table.{tableOf, slotIn, ordinalsIn}
 use Rattle.entry.specs.Ordinal.{ordinalIn}
 use Rattle.listing.specs.Text.{digitOf, digitsOf, decimalWidth}
 use Rattle.listing.specs.Listing.{lineOf, linesFrom, entriesOf, listingOf}
 use Rattle.listing.specs.Examples.{Examples}
 
 pub hold : Examples
-unfolding number headerOf headerChecks tablesOf leaves onHeader lacks kindOf unsoundFrom bundleAt bundleChecks stepOf bundlesFrom tableOf slotIn ordinalsIn ordinalIn digitOf digitsOf decimalWidth lineOf linesFrom entriesOf listingOf
+unfolding number headerOf headerChecks tablesOf leaves onHeader lacks kindOf unsoundFrom bundleAt bundleChecks stepOf lists.tableFrom lists.tableOf tableOf slotIn ordinalsIn ordinalIn digitOf digitsOf decimalWidth lineOf linesFrom entriesOf listingOf
 hold = (refl, refl, refl)

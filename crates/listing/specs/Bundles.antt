@@ -6,10 +6,11 @@ use lib.ListN.{drop}
 use Rattle.bundle.specs.declared.Kind.{Kind}
 use Rattle.bundle.specs.declared.Bundle.{Bundle}
 use Rattle.bundle.specs.Bundle.{widthOf, entryOf}
-use Rattle.entry.specs.Table.{Table, Sound, Unsound}
+use Rattle.lists.specs.Table.{Sound, Unsound}
+use Rattle.entry.specs.Table.{EntryTable}
 use Rattle.listing.specs.Listing.{answerLine}
 
-abbrev pub isSound : Table → Bool
+abbrev pub isSound : EntryTable → Bool
 isSound (Sound bs) = true
 isSound (Unsound why) = false
 
@@ -25,6 +26,6 @@ unfoldable pub bundlesLines : List ℕ → List Bundle → List ℕ
 bundlesLines table [] = []
 bundlesLines table (b ∷ bs) = bundleLines table b ++ bundlesLines table bs
 
-abbrev pub tableLines : List ℕ → Table → List ℕ
+abbrev pub tableLines : List ℕ → EntryTable → List ℕ
 tableLines table (Sound bs) = bundlesLines table bs
 tableLines table (Unsound why) = []

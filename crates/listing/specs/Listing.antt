@@ -11,7 +11,8 @@ use Rattle.header.specs.declared.Header.{Header}
 use Rattle.bundle.specs.declared.Entry.{Entry}
 use Rattle.bundle.specs.declared.Answer.{Answer}
 use Rattle.bundle.specs.declared.Answer.the-variants.{Accepted, Refused}
-use Rattle.entry.specs.Table.{Table, Sound, Unsound, tableOf, ordinalsIn}
+use Rattle.lists.specs.Table.{Sound, Unsound}
+use Rattle.entry.specs.Table.{EntryTable, tableOf, ordinalsIn}
 use Rattle.entry.specs.Ordinal.{tableBytes, inTable}
 use Rattle.listing.specs.Text.{ascii, decimalOf, hexOf}
 
@@ -46,7 +47,7 @@ linesFrom zero number answer = []
 linesFrom (suc count) number answer = answerLine number (answer number) ++ linesFrom count (number + 1) answer
 
 -- The listing of a table of these bytes.
-abbrev pub tableListing : List ℕ → Table → List ℕ
+abbrev pub tableListing : List ℕ → EntryTable → List ℕ
 tableListing table (Sound bs) = countOf (ordinalsIn bs) ++ (linesFrom (ordinalsIn bs) 1 (inTable table (Sound bs)) ++ ascii "end\n")
 tableListing table (Unsound why) = refusedOf why
 

@@ -12,7 +12,7 @@
 --     numbered-lacked  a list lacks the elements of number 0 and above its count
 --     numbered-has     the element of any other number is the one at that place
 -- Assumes nothing.
-use mathlib.Core.Path.{_≡_, refl}
+use mathlib.Core.Path.{_≡_, refl, ap}
 use mathlib.Core.Logic.{_⊎_, inl, inr}
 use mathlib.Core.Bool.{Bool, true, false, cond}
 use mathlib.Core.List.{List, [], _∷_, _++_}
@@ -55,7 +55,7 @@ module _ {A B : Type 0} (found : A → B) where
   pub first-append : (test : A → Bool) (none : B) (xs ys : List A) → firstOf test found none (xs ++ ys) ≡ firstOf test found (firstOf test found none ys) xs
   unfolding firstOf
   first-append test none [] ys = refl
-  first-append test none (x ∷ xs) ys = rw (first-append test none xs ys)
+  first-append test none (x ∷ xs) ys = ap (λ b. cond (test x) (found x) b) (first-append test none xs ys)
 
   pub first-through : {C : Type 0} (g : B → C) (test : A → Bool) (none : B) (xs : List A) → g (firstOf test found none xs) ≡ firstOf test (λ x. g (found x)) (g none) xs
   unfolding firstOf

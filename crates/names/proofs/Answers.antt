@@ -4,11 +4,11 @@
 --     by-number, by-bytes        the two queries
 -- Assumes nothing.
 use mathlib.Core.Path.{_≡_, _∙_, refl, sym, ap}
-use mathlib.Core.Bool.{Bool, true, false, cond, not, _&&_}
+use mathlib.Core.Bool.{Bool, true, false, cond}
 use mathlib.Core.List.{List, [], _∷_, _++_}
-use Prim.Native.Nat.{ℕ, suc, _+_, _*_, _≤_, _<_}
+use Prim.Native.Nat.{ℕ, suc, _+_, _*_, _≤_}
 use native.Mathlib.Omega.{arith}
-use borrow.Author.Tests.{eq-eqb, ne-eqb}
+use borrow.Author.Tests.{eq-eqb}
 use lib.Dec.{eqb}
 use lib.ListN.{length, drop}
 use Rattle.checks.proofs.Impossible.{never}
@@ -16,7 +16,7 @@ use Rattle.refusal.specs.declared.Refusal.{Refusal}
 use Rattle.refusal.specs.declared.Refusal.the-variants.{NoSuchNumber, NoSuchName, ResidentNames, NonresidentNames}
 use Rattle.lists.specs.Table.{Table, Sound, Unsound, onTable}
 use Rattle.lists.specs.Query.{firstOf, numbered}
-use Rattle.lists.proofs.Query.{All, all-map, Numbered, numbered-append, first-append, first-through, same-tests, below, numbered-first}
+use Rattle.lists.proofs.Query.{all-map, Numbered, numbered-append, first-append, first-through, same-tests, below, numbered-first}
 use Rattle.header.specs.Header.{headerOf}
 use Rattle.header.specs.declared.Header.{Header}
 use Rattle.header.proofs.Onward.{onward}

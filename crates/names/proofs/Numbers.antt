@@ -10,12 +10,12 @@ use native.Mathlib.Omega.{arith}
 use lib.ListN.{length}
 use Rattle.le.specs.Number.{byteAt}
 use Rattle.refusal.specs.declared.Refusal.{Refusal}
-use Rattle.lists.specs.Table.{Next, End, Sound}
+use Rattle.lists.specs.Table.{Next, Sound}
 use Rattle.lists.proofs.Query.{All, all-map, Numbered}
 use Rattle.lists.proofs.Induction.{sound-table}
 use Rattle.names.specs.declared.Name.{Name}
 use Rattle.names.specs.Names.{Place, nameAt, behind, stepOf, listFrom}
-use Rattle.names.proofs.Listed.{Went, went, end-inside}
+use Rattle.names.proofs.Listed.{went, end-inside}
 
 -- What is known of a name in a list that starts at `p`.
 pub record Bounded (image : List ℕ) (limit : ℕ) (p : Place) (n : Name) : Type 0 where

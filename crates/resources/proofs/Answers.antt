@@ -3,7 +3,7 @@
 --     sound-answer, unsound-answer                        what a walk that was done says
 --     by-number, by-words                                 the two queries
 -- Assumes nothing.
-use mathlib.Core.Path.{_≡_, _∙_, refl, sym}
+use mathlib.Core.Path.{_≡_, _∙_, refl}
 use mathlib.Core.Bool.{Bool, true, false, cond}
 use mathlib.Core.List.{List, [], _∷_, _++_}
 use Prim.Native.Nat.{ℕ, suc, _+_, _≤_, _<_}
@@ -16,7 +16,7 @@ use Rattle.le.specs.Number.{wordAt}
 use Rattle.checks.proofs.Impossible.{never}
 use Rattle.refusal.specs.declared.Refusal.{Refusal}
 use Rattle.refusal.specs.declared.Refusal.the-variants.{NoSuchNumber, ResourceTable, ResourceShift, NoSuchResource}
-use Rattle.lists.specs.Table.{Next, End, Table, Sound, Unsound, onTable}
+use Rattle.lists.specs.Table.{Next, Table, Sound, Unsound, onTable}
 use Rattle.lists.specs.Query.{firstOf, numbered}
 use Rattle.lists.proofs.Query.{Numbered, numbered-append, first-through, numbered-first}
 use Rattle.lists.proofs.Induction.{sound-table}
@@ -32,7 +32,7 @@ use Rattle.resources.specs.declared.Match.{Match}
 use Rattle.resources.specs.declared.Match.the-variants.{Found, Nothing}
 use Rattle.resources.specs.declared.Walked.the-variants as walked
 use Rattle.resources.specs.Resource.{Place, stepOf, blockAt, blocksFrom, resourcesOf, dataChecked, hasWords, resourceByNumber, resourceByWords}
-use Rattle.resources.specs.Search.{hasNumber, wanted, walkOf, decided, answerIn, answerOf}
+use Rattle.resources.specs.Search.{wanted, walkOf, decided, answerIn, answerOf}
 use Rattle.resources.proofs.InBlock.{many, in-order}
 use Rattle.resources.proofs.Blocks.{went}
 

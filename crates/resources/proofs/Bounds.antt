@@ -2,7 +2,7 @@
 --     number-accepted   found by its number, its data lie in the image
 --     words-accepted    found by its words, its data lie in the image, and it has these words
 -- Assumes nothing.
-use mathlib.Core.Path.{_≡_, refl, sym, _∙_}
+use mathlib.Core.Path.{_≡_, refl}
 use mathlib.Core.Bool.{Bool, true, false, _&&_}
 use mathlib.Core.List.{List, [], _∷_}
 use Prim.Native.Nat.{ℕ, _+_, _≤_}

@@ -7,7 +7,7 @@ use lib.Dec.{ltb, eqb}
 use Rattle.le.specs.Number.{wordAt}
 use Rattle.refusal.specs.declared.Refusal.{Refusal}
 use Rattle.refusal.specs.declared.Refusal.the-variants.{NoSuchNumber, ResourceTable, ResourceShift, NoSuchResource, ResourceOutside}
-use Rattle.checks.specs.Checks.{Check, _⇒_, decide}
+use Rattle.checks.specs.Checks.{_⇒_, decide}
 use Rattle.lists.specs.Table.{Step, Next, End, Stop, Table, Sound, Unsound, onTable, tableOf}
 use Rattle.lists.specs.Query.{numbered, firstOf}
 use Rattle.header.specs.Header.{headerOf, onHeader}

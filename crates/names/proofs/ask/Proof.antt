@@ -6,7 +6,6 @@ use Rattle.names.specs.Search.{answerOf}
 use borrow.Author.Needs.{needs}
 use Rattle.names.proofs.ask.Statement.{statement}
 use Rattle.names.proofs.ask.Tie as tie
-use Rattle.names.proofs.in_lists.Reads as in-lists-reads
 
 read-requires : tie.Need-read-requires
 read-requires c κs = search needs

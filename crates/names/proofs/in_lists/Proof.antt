@@ -2,7 +2,7 @@
 -- Assumes nothing.
 use mathlib.Core.Path.{_≡_, _∙_, sym}
 use mathlib.Core.List.{List}
-use Prim.Native.Nat.{_+_, _*_, _^_, _≤_, _<_}
+use Prim.Native.Nat.{_*_, _≤_}
 use native.Mathlib.Omega.{arith}
 use denote.Ref.{now}
 use lib.ListN.{length}
@@ -19,7 +19,6 @@ use Rattle.names.proofs.Answers.{sound-list, unsound-list, next-few}
 use borrow.Author.Needs.{needs}
 use Rattle.names.proofs.in_lists.Statement.{statement}
 use Rattle.names.proofs.in_lists.Tie as tie
-use Rattle.names.proofs.in_nonresident.Reads as in-nonresident-reads
 
 cast-t11 : tie.Need-cast-t11
 cast-t11 c = search needs

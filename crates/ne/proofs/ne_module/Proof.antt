@@ -8,7 +8,6 @@ use Rattle.imports.proofs.Bounds.{module-accepted}
 use borrow.Author.Needs.{needs}
 use Rattle.ne.proofs.ne_module.Statement.{statement}
 use Rattle.ne.proofs.ne_module.Tie as tie
-use Rattle.imports.proofs.by_number.Reads as by-number-reads
 
 by-number-requires : tie.Need-by-number-requires
 by-number-requires c κs = search needs

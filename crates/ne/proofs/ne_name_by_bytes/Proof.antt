@@ -6,7 +6,6 @@ use Rattle.ne.proofs.Fits.{bytes-fits}
 use borrow.Author.Needs.{needs}
 use Rattle.ne.proofs.ne_name_by_bytes.Statement.{statement}
 use Rattle.ne.proofs.ne_name_by_bytes.Tie as tie
-use Rattle.names.proofs.by_bytes.Reads as by-bytes-reads
 
 by-bytes-requires : tie.Need-by-bytes-requires
 by-bytes-requires c κs = search needs

@@ -6,7 +6,6 @@ use Rattle.ne.proofs.Fits.{number-fits}
 use borrow.Author.Needs.{needs}
 use Rattle.ne.proofs.ne_name_by_number.Statement.{statement}
 use Rattle.ne.proofs.ne_name_by_number.Tie as tie
-use Rattle.names.proofs.by_number.Reads as by-number-reads
 
 by-number-requires : tie.Need-by-number-requires
 by-number-requires c κs = search needs

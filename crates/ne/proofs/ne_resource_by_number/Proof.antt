@@ -4,7 +4,6 @@ use mathlib.Core.Path.{_∙_}
 use borrow.Author.Needs.{needs}
 use Rattle.ne.proofs.ne_resource_by_number.Statement.{statement}
 use Rattle.ne.proofs.ne_resource_by_number.Tie as tie
-use Rattle.resources.proofs.by_number.Reads as by-number-reads
 
 by-number-requires : tie.Need-by-number-requires
 by-number-requires c κs = search needs

@@ -4,7 +4,6 @@ use mathlib.Core.Path.{_∙_}
 use borrow.Author.Needs.{needs}
 use Rattle.ne.proofs.ne_resource_by_words.Statement.{statement}
 use Rattle.ne.proofs.ne_resource_by_words.Tie as tie
-use Rattle.resources.proofs.by_words.Reads as by-words-reads
 
 by-words-requires : tie.Need-by-words-requires
 by-words-requires c κs = search needs

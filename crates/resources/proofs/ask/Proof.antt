@@ -6,7 +6,6 @@ use Rattle.resources.specs.Search.{answerOf}
 use borrow.Author.Needs.{needs}
 use Rattle.resources.proofs.ask.Statement.{statement}
 use Rattle.resources.proofs.ask.Tie as tie
-use Rattle.resources.proofs.in_table.Reads as in-table-reads
 
 read-requires : tie.Need-read-requires
 read-requires c κs = search needs

@@ -3,8 +3,8 @@
 -- Assumes nothing.
 use mathlib.Core.Path.{_≡_, _∙_, refl, ap, sym}
 use mathlib.Core.Bool.{cond}
-use mathlib.Core.List.{List, []}
-use Prim.Native.Nat.{ℕ, _+_, _-_, _^_, _≤_, _<_}
+use mathlib.Core.List.{List, [], _∷_}
+use Prim.Native.Nat.{ℕ, _+_, _-_, _^_, _<_}
 use native.Mathlib.Omega.{arith}
 use borrow.Author.Needs.{needs}
 use denote.Ref.{now}
@@ -13,7 +13,8 @@ use Rattle.bundle.specs.declared.Bundle.{Bundle}
 use Rattle.entry.specs.declared.Slot.{Slot}
 use Rattle.entry.specs.declared.Walked.{Walked}
 use Rattle.entry.specs.declared.Walked.the-variants as walked
-use Rattle.entry.specs.Table.{Table, Sound, Unsound, after, tableOf, walkOf, ordinalsIn, covers, slotOf, noSlot}
+use Rattle.lists.specs.Table.{Sound, Unsound, after}
+use Rattle.entry.specs.Table.{EntryTable, tableOf, walkOf, ordinalsIn, covers, slotOf, noSlot}
 use Rattle.bundle.proofs.Went.{Went, went}
 use Rattle.entry.proofs.Follow.{sound-follow, lastIn, last-is-first}
 use Rattle.entry.proofs.Turns.{tableAt, unrolled, whole}
@@ -21,17 +22,17 @@ use Rattle.entry.proofs.whole.walk.Statement.{statement}
 use Rattle.entry.proofs.whole.walk.Tie as tie
 
 -- What is found in all, where `used` ordinals and the slot were found before the table `t`.
-abbrev found : ℕ → Slot → ℕ → Table → Walked
+abbrev found : ℕ → Slot → ℕ → EntryTable → Walked
 found used slot number (Sound bs) = walked.Sound (record { ordinals = used + ordinalsIn bs; slot = lastIn slot bs number })
 found used slot number (Unsound why) = walked.Unsound why
 
-found-all : (table : List ℕ) (segments number : ℕ) (t : Table) → tableOf table segments ≡ t → found 0 noSlot number t ≡ walkOf t number
+found-all : (table : List ℕ) (segments number : ℕ) (t : EntryTable) → tableOf table segments ≡ t → found 0 noSlot number t ≡ walkOf t number
 found-all table segments number (Sound bs) e =
     let all : 0 + ordinalsIn bs ≡ ordinalsIn bs = omega arith in
     rw (all, last-is-first 0 number bs (sound-follow table segments bs e))
 found-all table segments number (Unsound why) e = refl
 
-found-more : (used number : ℕ) (slot : Slot) (b : Bundle) (t : Table) → b .used ≡ used → found used slot number (after b t) ≡ found (b .used + b .count) (cond (covers b number) (slotOf b number) slot) number t
+found-more : (used number : ℕ) (slot : Slot) (b : Bundle) (t : EntryTable) → b .used ≡ used → found used slot number (after (b ∷ []) t) ≡ found (b .used + b .count) (cond (covers b number) (slotOf b number) slot) number t
 unfolding ordinalsIn lastIn
 found-more used number slot b (Sound bs) e =
     let sum : used + (b .count + ordinalsIn bs) ≡ b .used + b .count + ordinalsIn bs = omega arith in
@@ -39,7 +40,7 @@ found-more used number slot b (Sound bs) e =
 found-more used number slot b (Unsound why) e = refl
 
 abbrev Inv-loop : tie.InvT-loop
-Inv-loop table segments number at₀ used₀ slot₀ at used slot = (at ≤ length table) × (found used slot number (tableAt table segments at used) ≡ walkOf (tableOf table segments) number)
+Inv-loop table segments number at₀ used₀ slot₀ at used slot = found used slot number (tableAt table segments at used) ≡ walkOf (tableOf table segments) number
 
 abbrev μ-loop : tie.MeasureT-loop
 μ-loop table segments number at₀ used₀ slot₀ at used slot = length table - at
@@ -55,7 +56,7 @@ loop-holds : tie.Need-loop-holds Inv-loop μ-loop
 loop-holds c =
     let a = c .before .args in
     let t = tableOf (now (a .table)) (a .segments) in
-    (omega arith, sym (ap (found 0 noSlot (a .number)) (whole (now (a .table)) (a .segments))) ∙ found-all (now (a .table)) (a .segments) (a .number) t refl)
+    sym (ap (found 0 noSlot (a .number)) (whole (now (a .table)) (a .segments))) ∙ found-all (now (a .table)) (a .segments) (a .number) t refl
 
 next-requires : tie.Need-next-requires Inv-loop μ-loop
 next-requires c κs = search needs
@@ -68,8 +69,8 @@ returns c =
     let l = c .before .before .before .before .loop in
     let a = c .before .before .before .before .before .before .args in
     let step = sym (c .before .before .before .next .ensures) ∙ c .before .step .given .1 in
-    let ends : tableAt (now (a .table)) (a .segments) (l .at) (l .used) ≡ Unsound (c .before .step .given .0 .0) = unrolled (now (a .table)) (a .segments) (l .at) (l .used) (l .inv .0) ∙ rw step in
-    sym (ap (found (l .used) (l .slot) (a .number)) ends) ∙ l .inv .1
+    let ends : tableAt (now (a .table)) (a .segments) (l .at) (l .used) ≡ Unsound (c .before .step .given .0 .0) = unrolled (now (a .table)) (a .segments) (l .at) (l .used) _ step in
+    sym (ap (found (l .used) (l .slot) (a .number)) ends) ∙ l .inv
 
 enum-told : tie.Need-enum-told Inv-loop μ-loop
 enum-told c = search needs
@@ -80,9 +81,9 @@ returns-2 c =
     let l = c .before .before .before .loop in
     let a = c .before .before .before .before .before .args in
     let step = sym (c .before .before .next .ensures) ∙ c .enum-told .given .1 in
-    let ends : tableAt (now (a .table)) (a .segments) (l .at) (l .used) ≡ Sound [] = unrolled (now (a .table)) (a .segments) (l .at) (l .used) (l .inv .0) ∙ rw step in
+    let ends : tableAt (now (a .table)) (a .segments) (l .at) (l .used) ≡ Sound [] = unrolled (now (a .table)) (a .segments) (l .at) (l .used) _ step in
     let all : l .used + 0 ≡ l .used = omega arith in
-    rw (sym all) (sym (ap (found (l .used) (l .slot) (a .number)) ends) ∙ l .inv .1)
+    rw (sym all) (sym (ap (found (l .used) (l .slot) (a .number)) ends) ∙ l .inv)
 
 enum-known-step-2 : tie.Need-enum-known-step-2 Inv-loop μ-loop
 enum-known-step-2 c = search needs
@@ -109,9 +110,9 @@ loop-again c =
     let w = next-is (c .before .before) in
     let step = sym (c .before .before .before .before .before .next .ensures) ∙ c .before .before .before .step2 .given .1 in
     let t = tableAt (now (a .table)) (a .segments) (b .end) (b .used + b .count) in
-    let goes : tableAt (now (a .table)) (a .segments) (l .at) (l .used) ≡ after b t = unrolled (now (a .table)) (a .segments) (l .at) (l .used) (l .inv .0) ∙ rw step in
+    let goes : tableAt (now (a .table)) (a .segments) (l .at) (l .used) ≡ after (b ∷ []) t = unrolled (now (a .table)) (a .segments) (l .at) (l .used) _ step in
     let more = found-more (l .used) (a .number) (l .slot) b t (w .base) in
-    (w .end, rw (c .before .choose .ensures) (sym more ∙ sym (ap (found (l .used) (l .slot) (a .number)) goes) ∙ l .inv .1))
+    rw (c .before .choose .ensures) (sym more ∙ sym (ap (found (l .used) (l .slot) (a .number)) goes) ∙ l .inv)
 
 pub walk-spec : {M : Type 1} → statement M
 walk-spec =

@@ -4,7 +4,6 @@ use mathlib.Core.Path.{_∙_, sym}
 use borrow.Author.Needs.{needs}
 use Rattle.names.proofs.list.choose.Statement.{statement}
 use Rattle.names.proofs.list.choose.Tie as tie
-use Rattle.names.proofs.list.is_wanted.Reads as is-wanted-reads
 
 enum-known-found : tie.Need-enum-known-found
 enum-known-found c = search needs

@@ -1,6 +1,6 @@
 -- `names::list::is_wanted` meets its contract: each kind of request has its own test.
 -- Assumes nothing.
-use mathlib.Core.Path.{_≡_, _∙_, sym}
+use mathlib.Core.Path.{_≡_, _∙_}
 use mathlib.Core.Bool.{true, false}
 use borrow.Author.Tests.{eq-eqb, ne-eqb}
 use denote.Ref.{now}

@@ -1,7 +1,5 @@
 -- `ne::results::name` meets its contract: each arm hands the answer's numbers over.
 -- Assumes nothing.
-use mathlib.Core.Path.{_≡_}
-use Prim.Native.Nat.{_^_, _<_}
 use Rattle.names.specs.declared.Answer.the-variants.{Accepted}
 use Rattle.ne.specs.Fields.{NameFits}
 use borrow.Author.Needs.{needs}

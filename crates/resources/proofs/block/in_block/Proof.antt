@@ -3,8 +3,6 @@
 use borrow.Author.Needs.{needs}
 use Rattle.resources.proofs.block.in_block.Statement.{statement}
 use Rattle.resources.proofs.block.in_block.Tie as tie
-use Rattle.resources.proofs.block.of_number.Reads as of-number-reads
-use Rattle.resources.proofs.block.of_words.Reads as of-words-reads
 
 enum-known-request : tie.Need-enum-known-request
 enum-known-request c = search needs

@@ -1,8 +1,8 @@
 -- `resources::block::of_id` meets its contract. The loop's invariant: the resources that are left decide what all of them do.
 -- Assumes nothing.
-use mathlib.Core.Path.{_≡_, _∙_, refl, sym, ap}
+use mathlib.Core.Path.{_≡_, _∙_, sym, ap}
 use mathlib.Core.Bool.{true, false, cond}
-use Prim.Native.Nat.{suc, _+_, _*_, _-_, _^_, _≤_, _<_}
+use Prim.Native.Nat.{suc, _+_, _-_, _≤_, _<_}
 use native.Mathlib.Omega.{arith}
 use borrow.Author.Needs.{needs}
 use borrow.Author.Tests.{eq-eqb, ne-eqb}
@@ -11,7 +11,6 @@ use lib.Dec.{eqb}
 use Rattle.lists.specs.Query.{firstOf}
 use Rattle.resources.specs.declared.Match.the-variants.{Found}
 use Rattle.resources.specs.Resource.{resourceAt, resourcesFrom}
-use Rattle.resources.specs.Search.{hasId}
 use Rattle.resources.proofs.InBlock.{idFrom, one-more}
 use Rattle.resources.proofs.block.of_id.Statement.{statement}
 use Rattle.resources.proofs.block.of_id.Tie as tie

@@ -1,7 +1,7 @@
 -- `resources::block::of_words` meets its contract: words that pass the tests leave the id to decide.
 -- Assumes nothing.
 use mathlib.Core.Path.{_≡_, _∙_, sym}
-use mathlib.Core.Bool.{true, false, _&&_}
+use mathlib.Core.Bool.{true, false}
 use borrow.Author.Tests.{not-true, not-false}
 use denote.Ref.{now}
 use Rattle.resources.specs.Resource.{highBit}
@@ -9,8 +9,6 @@ use Rattle.resources.proofs.InBlock.{words-low, kind-other, words-id}
 use borrow.Author.Needs.{needs}
 use Rattle.resources.proofs.block.of_words.Statement.{statement}
 use Rattle.resources.proofs.block.of_words.Tie as tie
-use Rattle.resources.proofs.block.high_bit.Reads as high-bit-reads
-use Rattle.resources.proofs.block.of_id.Reads as of-id-reads
 
 high-bit-requires : tie.Need-high-bit-requires
 high-bit-requires c κs = search needs

@@ -3,7 +3,6 @@
 use borrow.Author.Needs.{needs}
 use Rattle.resources.proofs.block.search.Statement.{statement}
 use Rattle.resources.proofs.block.search.Tie as tie
-use Rattle.resources.proofs.block.in_block.Reads as in-block-reads
 
 enum-known-found : tie.Need-enum-known-found
 enum-known-found c = search needs
