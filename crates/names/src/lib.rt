@@ -28,25 +28,25 @@ pub enum Answer {
 }
 
 // What is asked for: a number, or the bytes that are handed over beside the request.
-pub enum Request {
+enum Request {
     Number(u32),
     Bytes,
 }
 
 // What a search has found.
-pub enum Match {
+enum Match {
     Found(Name),
     Nothing,
 }
 
 // How far a search has come: the number of the next name, and what was found.
-pub struct Progress {
+struct Progress {
     pub next: usize,
     pub found: Match,
 }
 
 // What a walk of a whole list answers.
-pub enum Walked {
+enum Walked {
     Sound(Progress),
     Unsound(Refusal),
 }

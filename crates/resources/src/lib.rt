@@ -29,19 +29,19 @@ pub enum Answer {
 }
 
 // What is asked for: a number, or a type word and an id word.
-pub enum Request {
+enum Request {
     Number(u32),
     Words(u32, u32),
 }
 
 // What a search has found.
-pub enum Match {
+enum Match {
     Found(Resource),
     Nothing,
 }
 
 // What a walk of the whole table answers.
-pub enum Walked {
+enum Walked {
     Sound(Match),
     Unsound(Refusal),
 }
