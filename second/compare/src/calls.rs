@@ -2,14 +2,16 @@
 //!
 //! A call has a file of its own and one line in [`all`].
 
-mod by_number;
-pub mod numbers;
+mod numbers;
 mod ordinal;
+mod query;
+mod request;
 mod segment;
 
-pub use by_number::ByNumber;
-pub use ordinal::OrdinalCall;
-pub use segment::SegmentCall;
+pub use ordinal::OrdinalQuery;
+pub use query::{FieldsOf, Function, Query};
+pub use request::Request;
+pub use segment::SegmentQuery;
 
 use crate::answer::Answer;
 use crate::difference::{Answers, Difference};
@@ -45,8 +47,8 @@ pub trait Call {
 
 pub fn all() -> Vec<Box<dyn Call>> {
     vec![
-        Box::new(SegmentCall::exported()),
-        Box::new(OrdinalCall::exported()),
+        Box::new(Function::<SegmentQuery>::exported()),
+        Box::new(Function::<OrdinalQuery>::exported()),
     ]
 }
 

@@ -25,6 +25,11 @@ const GREAT: [u32; 7] = [
     0xFFFF_FFFF,
 ];
 
+/// Numbers that a table of one doesn't have.
+fn other_numbers() -> Vec<u32> {
+    [0, 2].into_iter().chain(GREAT).collect()
+}
+
 /// Counts one edge; both programs must give the expected answer.
 fn demand<T: PartialEq + Debug>(
     tally: &mut Tally,

@@ -16,6 +16,7 @@ mod inputs;
 #[allow(unsafe_code)]
 mod library;
 mod options;
+mod results;
 mod run;
 mod seen;
 mod stated;

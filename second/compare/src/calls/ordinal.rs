@@ -1,71 +1,49 @@
 //! The ordinal query.
 
-use super::numbers::Worth;
-use super::ByNumber;
-use crate::answer::Answer;
+use super::numbers::{number_to_ask, Worth};
+use super::Query;
 use crate::edges::{self, judge::Edges};
 use crate::inputs::Input;
-use crate::library::{self, OrdinalResult};
+use crate::library::{self, Lent};
+use crate::results::OrdinalResult;
 use crate::stated::{self, Bundle};
 use builder::Random;
 use reference::Entry;
 
 /// Asks for the entry of an ordinal.
-#[derive(Clone, Copy)]
-pub struct OrdinalCall {
-    /// The library's function, or a wrong one in a test.
-    pub library: fn(&[u8], u32) -> OrdinalResult,
-}
+pub struct OrdinalQuery;
 
-impl OrdinalCall {
-    pub fn exported() -> Self {
-        OrdinalCall {
-            library: library::ordinal,
-        }
-    }
-}
-
-impl ByNumber for OrdinalCall {
+impl Query for OrdinalQuery {
+    type Request = u32;
     type Values = Entry;
-    type Fields = [u32; 3];
+    type Result = OrdinalResult;
 
     const NAME: &'static str = "ne_ordinal";
     const ANSWERS: &'static [u32] = &[0, 1, 2, 3, 4, 5, 6, 7, 12, 13, 14, 15];
 
-    fn library(&self, image: &[u8], number: u32) -> Answer<Entry> {
-        (self.library)(image, number).into()
+    fn exported(image: Lent, number: &u32) -> OrdinalResult {
+        library::ordinal(image, *number)
     }
 
-    fn library_of_nothing(address: usize, number: u32) -> Answer<Entry> {
-        library::ordinal_of_nothing(address, number).into()
-    }
-
-    fn reference(image: &[u8], number: u32) -> Answer<Entry> {
-        reference::ordinal(image, number).into()
-    }
-
-    fn values([segment, offset, flag]: [u32; 3]) -> Entry {
-        Entry {
-            segment,
-            offset,
-            flag,
-        }
+    fn reference(image: &[u8], number: &u32) -> Result<Entry, u32> {
+        reference::ordinal(image, *number)
     }
 
     /// A null ordinal and a movable one, where there are such.
-    fn worth_asking(input: &Input, random: &mut Random) -> Worth {
+    fn worth_asking(input: &Input, request: u64, random: &mut Random) -> u32 {
         let bundles = stated::bundles(&input.bytes);
         let last = bundles.last().map_or(0, Bundle::last);
         let any = ordinal_of(&bundles, |_| true, random).unwrap_or(1);
         let null = ordinal_of(&bundles, |bundle| bundle.segment == 0, random);
         let movable = ordinal_of(&bundles, |bundle| bundle.segment == 255, random);
-        Worth {
+        let worth = Worth {
             last,
             inside: [
                 null.unwrap_or(any),
                 movable.filter(|_| random.chance(50)).unwrap_or(any),
             ],
-        }
+        };
+        number_to_ask(&worth, request, random)
     }
 
     fn edges_by_subject() -> Vec<Edges<Self>> {

@@ -9,33 +9,58 @@ mod untested;
 
 use super::judge::{Edges, Judge};
 use super::minimal::Minimal;
-use crate::calls::ByNumber;
+use crate::calls::{FieldsOf, Query, Request};
 
-/// What these edges need of a query by number: images to change one thing in.
-pub trait HeaderEdges: ByNumber {
+/// What these edges need of a query: images to change one thing in.
+pub trait HeaderEdges: Query {
     /// 144 bytes: the NE header at 64 with shift 0, one segment's record at
-    /// 128, and 8 bytes that the query needs at 136. There are no modules and
-    /// no nonresident names.
+    /// 128, and what the query needs, which ends before the last byte or with
+    /// it. Where the query doesn't need them there are no modules, and there
+    /// are no nonresident names. The last byte is 0 if the query reads those.
     fn plain() -> Minimal;
 
-    /// What number 1 gives on it.
-    const PLAIN: Self::Fields;
+    /// Where in it those bytes start that the query needs.
+    const NEEDED_FROM: usize;
 
-    /// The same, but that the query's own checks refuse number 1.
+    /// What is asked for.
+    fn asked() -> Self::Request;
+
+    /// What that gives on the plain image.
+    const PLAIN: FieldsOf<Self>;
+
+    /// Requests that are refused there, or for which the image has another
+    /// answer.
+    fn others() -> Vec<Self::Request>;
+
+    /// The plain image, but that the query's own checks refuse what is asked.
     fn unsound() -> Minimal;
 
-    /// An image that ends with its NE header, which is here and has in it from
-    /// 34h on all that the query needs. The answer is the same at every shift.
+    /// An image that ends with its NE header, which is here and has in it all
+    /// that the query needs. The answer is the same at every shift.
     fn in_header(place: usize) -> Minimal;
 
-    /// What number 1 gives on it.
-    const IN_HEADER: Self::Fields;
+    /// What is given there.
+    fn fields_in_header(place: usize) -> FieldsOf<Self>;
 
-    /// The refusal of number 1 where no table has a size.
+    /// The refusal where no table has a size or a place.
     const WITHOUT_TABLES: u32;
+
+    /// The tables that the query reads, apart from the segments' records.
+    const READS: &'static [Table];
 }
 
-pub fn by_subject<Query: HeaderEdges>() -> Vec<Edges<Query>> {
+/// A table that some queries read and others don't.
+#[derive(Clone, Copy, PartialEq, Eq)]
+pub enum Table {
+    Entries,
+    ResidentNames,
+    NonresidentNames,
+    Modules,
+    ImportedNames,
+    Resources,
+}
+
+pub fn by_subject<Q: HeaderEdges>() -> Vec<Edges<Q>> {
     vec![
         ("image (1 to 3)", image::edges),
         ("NE header (4, 5)", place::edges),
@@ -46,14 +71,39 @@ pub fn by_subject<Query: HeaderEdges>() -> Vec<Edges<Query>> {
     ]
 }
 
-impl<Query: HeaderEdges> Judge<Query> {
-    /// Number 1 is answered as on the plain image.
-    fn accepts_plain(&mut self, name: &str, image: &Minimal) {
-        self.accepts(name, image, 1, Query::PLAIN);
+/// Whether the query reads the table.
+fn reads<Q: HeaderEdges>(table: Table) -> bool {
+    Q::READS.contains(&table)
+}
+
+impl<Q: HeaderEdges> Judge<Q> {
+    /// What is asked is answered as on the plain image.
+    pub fn accepts_plain(&mut self, name: &str, image: &Minimal) {
+        self.accepts(name, image, Q::asked(), Q::PLAIN);
     }
 
-    /// Number 1 is answered from what the NE header holds.
+    /// What is asked is answered from what the NE header holds.
     fn accepts_in_header(&mut self, name: &str, image: &Minimal) {
-        self.accepts(name, image, 1, Query::IN_HEADER);
+        let fields = Q::fields_in_header(image.header());
+        self.accepts(name, image, Q::asked(), fields);
+    }
+
+    /// What is asked is refused.
+    fn refuses_asked(&mut self, name: &str, image: &Minimal, refusal: u32) {
+        self.refuses(name, image, Q::asked(), refusal);
+    }
+
+    /// All that isn't asked elsewhere is refused.
+    fn refuses_others(&mut self, name: &str, image: &Minimal, refusal: u32) {
+        for request in Q::others() {
+            let name = format!("{name}, {}", request.text());
+            self.refuses(&name, image, request, refusal);
+        }
+    }
+
+    /// The refusal is given whatever is asked for.
+    pub fn refuses_all(&mut self, name: &str, image: &Minimal, refusal: u32) {
+        self.refuses_asked(name, image, refusal);
+        self.refuses_others(name, image, refusal);
     }
 }

@@ -1,23 +1,25 @@
-//! Demands expected answers to queries by number of both programs.
+//! Demands expected answers to a query of both programs.
 
 use super::demand;
 use super::minimal::Minimal;
 use crate::answer::Answer;
-use crate::calls::ByNumber;
+use crate::calls::{FieldsOf, Function, Query};
+use crate::library::Lent;
+use crate::results::Values;
 use tally::Tally;
 
 /// Edges with their subject.
-pub type Edges<Query> = (&'static str, fn(&mut Judge<Query>));
+pub type Edges<Q> = (&'static str, fn(&mut Judge<Q>));
 
-pub fn run<Query: ByNumber>(query: Query, edges_by_subject: &[Edges<Query>]) -> Tally {
+pub fn run<Q: Query>(function: Function<Q>, edges_by_subject: &[Edges<Q>]) -> Tally {
     let mut whole = Tally::default();
     for (subject, edges) in edges_by_subject {
         let mut judge = Judge {
-            query,
+            function,
             tally: Tally::default(),
         };
         edges(&mut judge);
-        let group = format!("edges of {}, {subject}", Query::NAME);
+        let group = format!("edges of {}, {subject}", Q::NAME);
         println!("{}", judge.tally.line(&group));
         whole.add(judge.tally);
     }
@@ -25,35 +27,54 @@ pub fn run<Query: ByNumber>(query: Query, edges_by_subject: &[Edges<Query>]) -> 
 }
 
 /// Asks both programs and counts.
-pub struct Judge<Query> {
-    query: Query,
+pub struct Judge<Q: Query> {
+    function: Function<Q>,
     tally: Tally,
 }
 
-impl<Query: ByNumber> Judge<Query> {
-    pub fn accepts(&mut self, name: &str, image: &Minimal, number: u32, fields: Query::Fields) {
-        let expected = Answer::Accepted(Query::values(fields));
-        self.both(name, image, number, &expected);
+impl<Q: Query> Judge<Q> {
+    pub fn accepts(
+        &mut self,
+        name: &str,
+        image: &Minimal,
+        request: Q::Request,
+        fields: FieldsOf<Q>,
+    ) {
+        let expected = Answer::Accepted(Q::Values::of(fields));
+        self.both(name, image, &request, &expected);
     }
 
-    pub fn refuses(&mut self, name: &str, image: &Minimal, number: u32, refusal: u32) {
-        self.both(name, image, number, &Answer::Refused(refusal));
+    pub fn refuses(&mut self, name: &str, image: &Minimal, request: Q::Request, refusal: u32) {
+        self.both(name, image, &request, &Answer::Refused(refusal));
     }
 
-    fn both(&mut self, name: &str, image: &Minimal, number: u32, expected: &Answer<Query::Values>) {
+    fn both(
+        &mut self,
+        name: &str,
+        image: &Minimal,
+        request: &Q::Request,
+        expected: &Answer<Q::Values>,
+    ) {
         let bytes = image.bytes();
         let answers = [
-            ("library", self.query.library(bytes, number)),
-            ("reference", Query::reference(bytes, number)),
+            ("library", self.function.ask(bytes, request)),
+            ("reference", Q::reference(bytes, request).into()),
         ];
         demand(&mut self.tally, name, expected, answers);
     }
 
     /// An image of 0 bytes, which the library may be handed at any address.
-    pub fn refuses_nothing_at(&mut self, name: &str, address: usize, refusal: u32) {
+    pub fn refuses_nothing_at(
+        &mut self,
+        name: &str,
+        address: usize,
+        request: &Q::Request,
+        refusal: u32,
+    ) {
+        let library = Q::exported(Lent::NothingAt(address), request);
         let answers = [
-            ("library", Query::library_of_nothing(address, 1)),
-            ("reference", Query::reference(&[], 1)),
+            ("library", library.into()),
+            ("reference", Q::reference(&[], request).into()),
         ];
         demand(&mut self.tally, name, &Answer::Refused(refusal), answers);
     }

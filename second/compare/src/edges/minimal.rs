@@ -31,6 +31,11 @@ impl Minimal {
         &self.bytes
     }
 
+    /// Where the NE header stands.
+    pub fn header(&self) -> usize {
+        self.header
+    }
+
     /// Cuts the image or adds zeros.
     pub fn length(mut self, length: usize) -> Self {
         self.bytes.resize(length, 0);

@@ -9,16 +9,16 @@ mod segments;
 mod tables;
 mod untested;
 
-use super::header::{self, HeaderEdges};
+use super::header::{self, HeaderEdges, Table};
 use super::judge::{self, Edges};
 use super::minimal::Minimal;
-use super::GREAT;
-use crate::calls::OrdinalCall;
+use super::{other_numbers, GREAT};
+use crate::calls::OrdinalQuery;
 
-type Judge = judge::Judge<OrdinalCall>;
+type Judge = judge::Judge<OrdinalQuery>;
 
-pub fn by_subject() -> Vec<Edges<OrdinalCall>> {
-    let own: [Edges<OrdinalCall>; 8] = [
+pub fn by_subject() -> Vec<Edges<OrdinalQuery>> {
+    let own: [Edges<OrdinalQuery>; 8] = [
         ("P10 and P11", examples::edges),
         ("segment and entry table (7)", tables::edges),
         ("end of the table (12)", ends::edges),
@@ -31,13 +31,23 @@ pub fn by_subject() -> Vec<Edges<OrdinalCall>> {
     header::by_subject().into_iter().chain(own).collect()
 }
 
-impl HeaderEdges for OrdinalCall {
-    /// The 8 bytes are the entry table.
+impl HeaderEdges for OrdinalQuery {
+    /// The 8 bytes behind the segment's record are the entry table.
     fn plain() -> Minimal {
         plain()
     }
 
+    const NEEDED_FROM: usize = 136;
+
+    fn asked() -> u32 {
+        1
+    }
+
     const PLAIN: [u32; 3] = PLAIN;
+
+    fn others() -> Vec<u32> {
+        other_numbers()
+    }
 
     /// Segment 2 of 1.
     fn unsound() -> Minimal {
@@ -54,9 +64,13 @@ impl HeaderEdges for OrdinalCall {
             .put(place + 0x34, &ONE_FIXED)
     }
 
-    const IN_HEADER: [u32; 3] = PLAIN;
+    fn fields_in_header(_: usize) -> [u32; 3] {
+        PLAIN
+    }
 
     const WITHOUT_TABLES: u32 = 15;
+
+    const READS: &'static [Table] = &[Table::Entries];
 }
 
 /// A table of one fixed entry in segment 1.
@@ -120,11 +134,4 @@ fn movable(segment: u8, count: u8) -> Vec<u8> {
 /// What an entry of [`movable`] gives.
 fn in_movable(segment: u32) -> [u32; 3] {
     [segment, 0x6655, 0x44]
-}
-
-/// The refusal is given whatever ordinal is asked for.
-fn refuses_all(judge: &mut Judge, name: &str, image: &Minimal, refusal: u32) {
-    for number in [0, 1, 2].into_iter().chain(GREAT) {
-        judge.refuses(&format!("{name}, {number}"), image, number, refusal);
-    }
 }

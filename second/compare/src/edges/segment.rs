@@ -9,18 +9,18 @@ mod stored;
 mod tables;
 mod untested;
 
-use super::header::{self, HeaderEdges};
+use super::header::{self, HeaderEdges, Table};
 use super::judge::{self, Edges};
 use super::minimal::Minimal;
-use super::GREAT;
-use crate::calls::SegmentCall;
+use super::{other_numbers, GREAT};
+use crate::calls::SegmentQuery;
 
-type Judge = judge::Judge<SegmentCall>;
+type Judge = judge::Judge<SegmentQuery>;
 
-pub fn by_subject() -> Vec<Edges<SegmentCall>> {
-    let own: [Edges<SegmentCall>; 8] = [
+pub fn by_subject() -> Vec<Edges<SegmentQuery>> {
+    let own: [Edges<SegmentQuery>; 8] = [
         ("starts by the shift", shift::edges),
-        ("segment and entry table (7)", tables::edges),
+        ("segment table (7)", tables::edges),
         ("number (8)", number::edges),
         ("stored bytes (9)", stored::edges),
         ("record list (9)", records::edges),
@@ -31,13 +31,23 @@ pub fn by_subject() -> Vec<Edges<SegmentCall>> {
     header::by_subject().into_iter().chain(own).collect()
 }
 
-impl HeaderEdges for SegmentCall {
-    /// The 8 bytes are those stored.
+impl HeaderEdges for SegmentQuery {
+    /// The 8 bytes behind the record are those stored.
     fn plain() -> Minimal {
         plain()
     }
 
+    const NEEDED_FROM: usize = 128;
+
+    fn asked() -> u32 {
+        1
+    }
+
     const PLAIN: [u32; 5] = PLAIN;
+
+    fn others() -> Vec<u32> {
+        other_numbers()
+    }
 
     fn unsound() -> Minimal {
         plain().record(128, [0xFFFF, 0, 0x0108, 1])
@@ -51,9 +61,13 @@ impl HeaderEdges for SegmentCall {
             .record(place + 0x34, [0, 5, 0x0010, 3])
     }
 
-    const IN_HEADER: [u32; 5] = [0, 0, 0x0010, 3, 0];
+    fn fields_in_header(_: usize) -> [u32; 5] {
+        [0, 0, 0x0010, 3, 0]
+    }
 
     const WITHOUT_TABLES: u32 = 8;
+
+    const READS: &'static [Table] = &[];
 }
 
 /// An image with a segment table at 128 and nothing after it.

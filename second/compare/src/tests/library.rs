@@ -2,7 +2,7 @@
 
 use super::wrong::{ordinal, segment};
 use crate::answer::Answer;
-use crate::library::{OrdinalResult, SegmentResult};
+use crate::results::{OrdinalResult, SegmentResult};
 use reference::{Entry, Segment};
 
 #[test]

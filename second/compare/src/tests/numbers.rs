@@ -1,6 +1,6 @@
 //! The numbers that are asked for.
 
-use crate::calls::{numbers::number_to_ask, ByNumber, OrdinalCall, SegmentCall, REQUESTS};
+use crate::calls::{OrdinalQuery, Query, SegmentQuery, REQUESTS};
 use crate::inputs::Input;
 use builder::special::special;
 use builder::Random;
@@ -15,19 +15,17 @@ fn input(name: &str) -> Input {
 }
 
 /// All numbers that a request asks for.
-fn asked<Query: ByNumber>(input: &Input, request: u64) -> BTreeSet<u32> {
+fn asked<Q: Query<Request = u32>>(input: &Input, request: u64) -> BTreeSet<u32> {
     let mut random = Random::new(request);
-    let mut ask = || {
-        let worth = Query::worth_asking(input, &mut random);
-        number_to_ask(&worth, request, &mut random)
-    };
-    (0..2_000).map(|_| ask()).collect()
+    (0..2_000)
+        .map(|_| Q::worth_asking(input, request, &mut random))
+        .collect()
 }
 
 /// P10 has ordinal 1, the null ones 2 and 3, and the movable 4.
 #[test]
 fn ordinals_of_p10() {
-    let asked = |request| asked::<OrdinalCall>(&input("P10"), request);
+    let asked = |request| asked::<OrdinalQuery>(&input("P10"), request);
     for (request, expected) in [(0, 0), (1, 1), (2, 4), (3, 5)] {
         assert_eq!(asked(request), BTreeSet::from([expected]));
     }
@@ -40,7 +38,7 @@ fn ordinals_of_p10() {
 
 #[test]
 fn ordinals_of_an_empty_table() {
-    let asked = |request| asked::<OrdinalCall>(&input("P11, byte count 0"), request);
+    let asked = |request| asked::<OrdinalQuery>(&input("P11, byte count 0"), request);
     for (request, expected) in [(2, 0), (3, 1), (4, 1), (5, 1)] {
         assert_eq!(asked(request), BTreeSet::from([expected]));
     }
@@ -50,8 +48,8 @@ fn ordinals_of_an_empty_table() {
 #[test]
 fn ordinals_of_a_table_cut_short() {
     let image = input("a missing segment in a bundle cut short");
-    assert_eq!(asked::<OrdinalCall>(&image, 2), BTreeSet::from([2]));
-    assert_eq!(asked::<OrdinalCall>(&image, 5), BTreeSet::from([1, 2]));
+    assert_eq!(asked::<OrdinalQuery>(&image, 2), BTreeSet::from([2]));
+    assert_eq!(asked::<OrdinalQuery>(&image, 5), BTreeSet::from([1, 2]));
 }
 
 #[test]
@@ -59,13 +57,13 @@ fn segments_of_p10() {
     let mut image = input("P10");
     for (request, expected) in [(0, 0), (1, 1), (2, 2), (3, 3)] {
         assert_eq!(
-            asked::<SegmentCall>(&image, request),
+            asked::<SegmentQuery>(&image, request),
             BTreeSet::from([expected])
         );
     }
-    assert_eq!(asked::<SegmentCall>(&image, 5), BTreeSet::from([1, 2]));
+    assert_eq!(asked::<SegmentQuery>(&image, 5), BTreeSet::from([1, 2]));
     image.segment = Some(2);
-    assert_eq!(asked::<SegmentCall>(&image, 4), BTreeSet::from([2]));
+    assert_eq!(asked::<SegmentQuery>(&image, 4), BTreeSet::from([2]));
 }
 
 /// Nothing is stated by bytes that have no header.
@@ -76,7 +74,7 @@ fn numbers_of_random_bytes() {
             bytes: vec![0xFF; length],
             ..input("P10")
         };
-        assert_eq!(asked::<SegmentCall>(&image, 2), BTreeSet::from([0]));
-        assert_eq!(asked::<OrdinalCall>(&image, 2), BTreeSet::from([0]));
+        assert_eq!(asked::<SegmentQuery>(&image, 2), BTreeSet::from([0]));
+        assert_eq!(asked::<OrdinalQuery>(&image, 2), BTreeSet::from([0]));
     }
 }

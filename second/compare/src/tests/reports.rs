@@ -1,14 +1,14 @@
 //! The report of a difference.
 
 use super::wrong::segment::{call, rare_start, right, unclean};
-use crate::calls::{Call, SegmentCall, REQUESTS};
+use crate::calls::{Call, Function, SegmentQuery, REQUESTS};
 use crate::difference::{Difference, Place};
 use crate::inputs::{Input, Kind};
 use crate::seen::Seen;
 use crate::streams::stream;
 
 /// The first difference among the sound images.
-fn first(call: SegmentCall) -> Option<(Difference, Input)> {
+fn first(call: Function<SegmentQuery>) -> Option<(Difference, Input)> {
     let images = Kind::Sound.inputs(5, 0..20_000);
     images.zip(0..).find_map(|(input, number)| {
         (0..REQUESTS).find_map(|request| {

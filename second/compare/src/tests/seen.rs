@@ -2,7 +2,7 @@
 
 use super::wrong::ordinal;
 use super::wrong::segment::{call, right};
-use crate::calls::{Call, SegmentCall};
+use crate::calls::{Call, Function, SegmentQuery};
 use crate::seen::Seen;
 
 const CALL: &str = "ne_segment";
@@ -16,7 +16,7 @@ fn without(missing: Option<u32>) -> Seen {
     seen
 }
 
-fn segment() -> SegmentCall {
+fn segment() -> Function<SegmentQuery> {
     call(right)
 }
 

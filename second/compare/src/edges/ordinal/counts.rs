@@ -1,6 +1,6 @@
 //! Refusal 14: over 65,535 ordinals, null ones included.
 
-use super::{ended, fixed, in_fixed, in_movable, module, movable, nulls, refuses_all, Judge};
+use super::{ended, fixed, in_fixed, in_movable, module, movable, nulls, Judge};
 
 pub fn edges(judge: &mut Judge) {
     null_bundles(judge);
@@ -14,22 +14,22 @@ pub fn edges(judge: &mut Judge) {
 fn null_bundles(judge: &mut Judge) {
     for count in [65_279, 65_280, 65_534, 65_535] {
         let name = format!("{count} null");
-        refuses_all(judge, &name, &module(1, &ended(&[&nulls(count)])), 15);
+        judge.refuses_all(&name, &module(1, &ended(&[&nulls(count)])), 15);
     }
     for count in [65_536, 65_537, 65_789, 65_790, 65_791] {
         let name = format!("{count} null");
-        refuses_all(judge, &name, &module(1, &ended(&[&nulls(count)])), 14);
+        judge.refuses_all(&name, &module(1, &ended(&[&nulls(count)])), 14);
     }
 }
 
 /// The count of bundles plays no part; the most are 32,767.
 fn small_bundles(judge: &mut Judge) {
     let threes = [3, 0].repeat(21_845);
-    refuses_all(judge, "21,845 of 3", &module(1, &ended(&[&threes])), 15);
+    judge.refuses_all("21,845 of 3", &module(1, &ended(&[&threes])), 15);
     let one_more = module(1, &ended(&[&threes, &[1, 0]]));
-    refuses_all(judge, "21,845 of 3 and 1", &one_more, 14);
+    judge.refuses_all("21,845 of 3 and 1", &one_more, 14);
     let twos = module(1, &ended(&[&[2, 0].repeat(32_767)]));
-    refuses_all(judge, "32,767 of 2", &twos, 15);
+    judge.refuses_all("32,767 of 2", &twos, 15);
     let used = module(1, &ended(&[&[2, 0].repeat(32_764), &fixed(1, 1)]));
     judge.accepts("an entry behind 65,528 in twos", &used, 65_529, in_fixed(1));
 }
@@ -53,15 +53,10 @@ fn last_bundle(judge: &mut Judge) {
                 judge.refuses(&format!("{name}, {number}"), &whole, number, 15);
             }
             let over = module(1, &ended(&[&nulls(before + 1), &bundle]));
-            refuses_all(judge, &format!("{name}, one over"), &over, 14);
+            judge.refuses_all(&format!("{name}, one over"), &over, 14);
         }
         let over = module(1, &ended(&[&nulls(before + 1), &[count, 0]]));
-        refuses_all(
-            judge,
-            &format!("{count} null at the end, one over"),
-            &over,
-            14,
-        );
+        judge.refuses_all(&format!("{count} null at the end, one over"), &over, 14);
     }
 }
 
@@ -76,18 +71,13 @@ fn all_kinds(judge: &mut Judge) {
     judge.accepts("the last used", &whole, 10_300, in_movable(1));
     judge.refuses("the first null behind", &whole, 10_301, 15);
     judge.refuses("the last null", &whole, 65_535, 15);
-    refuses_all(judge, "one more null", &module(1, &table(55_236)), 14);
+    judge.refuses_all("one more null", &module(1, &table(55_236)), 14);
 }
 
 /// Twice round a 16-bit count, so that it would be small again.
 fn far_past(judge: &mut Judge) {
     for count in [65_536 + 4, 131_072, 131_072 + 4, 1_000_000] {
         let table = ended(&[&nulls(count), &fixed(1, 1)]);
-        refuses_all(
-            judge,
-            &format!("{count} null and a fixed"),
-            &module(1, &table),
-            14,
-        );
+        judge.refuses_all(&format!("{count} null and a fixed"), &module(1, &table), 14);
     }
 }

@@ -1,8 +1,7 @@
 //! Refusal 15: the ordinal isn't covered, or is null.
 
 use super::{
-    ended, fixed, in_fixed, in_movable, module, movable, nulls, plain, refuses_all, Judge, Minimal,
-    GREAT, PLAIN,
+    ended, fixed, in_fixed, in_movable, module, movable, nulls, plain, Judge, Minimal, GREAT, PLAIN,
 };
 
 pub fn edges(judge: &mut Judge) {
@@ -25,15 +24,15 @@ fn of_one(judge: &mut Judge) {
 
 /// Empty tables, and tables with null ordinals alone.
 fn of_none(judge: &mut Judge) {
-    refuses_all(judge, "no tables", &Minimal::new(), 15);
+    judge.refuses_all("no tables", &Minimal::new(), 15);
     let far = plain().ne_word(0x06, 0).ne_word(0x04, 0xFFFF);
-    refuses_all(judge, "size 0, place FFFFh", &far, 15);
+    judge.refuses_all("size 0, place FFFFh", &far, 15);
     let near = plain().ne_word(0x06, 0);
-    refuses_all(judge, "size 0, at a sound table", &near, 15);
-    refuses_all(judge, "only an end byte", &module(1, &[0]), 15);
-    refuses_all(judge, "no segments, an end byte", &module(0, &[0]), 15);
-    refuses_all(judge, "no segments, 1 null", &module(0, &[1, 0, 0]), 15);
-    refuses_all(judge, "600 null", &module(0, &ended(&[&nulls(600)])), 15);
+    judge.refuses_all("size 0, at a sound table", &near, 15);
+    judge.refuses_all("only an end byte", &module(1, &[0]), 15);
+    judge.refuses_all("no segments, an end byte", &module(0, &[0]), 15);
+    judge.refuses_all("no segments, 1 null", &module(0, &[1, 0, 0]), 15);
+    judge.refuses_all("600 null", &module(0, &ended(&[&nulls(600)])), 15);
 }
 
 /// The greatest count of one bundle.

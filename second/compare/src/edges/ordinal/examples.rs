@@ -1,6 +1,6 @@
 //! P10 and P11 of document 01.
 
-use super::{module, refuses_all, Judge, Minimal};
+use super::{module, Judge, Minimal};
 
 const P10: [u8; 16] = [
     0x01, 0x01, 0x01, 0x10, 0x00, 0x02, 0x00, 0x01, 0xFF, 0x03, 0xCD, 0x3F, 0x02, 0x20, 0x00, 0x00,
@@ -31,8 +31,8 @@ fn p10(judge: &mut Judge) {
 }
 
 fn p11(judge: &mut Judge) {
-    refuses_all(judge, "P11, byte count 15", &counted(15), 12);
-    refuses_all(judge, "P11, byte count 0", &counted(0), 15);
+    judge.refuses_all("P11, byte count 15", &counted(15), 12);
+    judge.refuses_all("P11, byte count 0", &counted(0), 15);
     for bytes in 1..15 {
         let name = format!("P10, byte count {bytes}");
         judge.refuses(&name, &counted(bytes), 1, 12);

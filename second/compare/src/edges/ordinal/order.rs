@@ -1,6 +1,6 @@
 //! Two checks that fail at once: the earlier one decides, bundle by bundle.
 
-use super::{ended, fixed, module, movable, nulls, refuses_all, Judge, Minimal};
+use super::{ended, fixed, module, movable, nulls, Judge, Minimal};
 
 pub fn edges(judge: &mut Judge) {
     after_7(judge);
@@ -25,7 +25,7 @@ fn after_7(judge: &mut Judge) {
     for (own, image) in unsound {
         judge.refuses(&format!("{own} alone"), &image, 1, own);
         let long = image.ne_word(0x1E, 0xFFFF);
-        refuses_all(judge, &format!("7 before {own}"), &long, 7);
+        judge.refuses_all(&format!("7 before {own}"), &long, 7);
         let shifted = long.ne_word(0x32, 16);
         judge.refuses(&format!("6 before {own}"), &shifted, 0, 6);
         let no_ne = shifted.put(64, b"NX");
@@ -88,9 +88,9 @@ fn entry_bytes_before_13(judge: &mut Judge) {
 /// Per bundle: 12 for the segment byte, 14, 12 for entry bytes, 13.
 fn between_the_two_12s(judge: &mut Judge) {
     let full = nulls(65_535);
-    refuses_all(judge, "no end byte, 12", &raw(&[&full]), 12);
-    refuses_all(judge, "segment byte before 14", &raw(&[&full, &[1]]), 12);
-    refuses_all(judge, "segment byte of 255", &raw(&[&full, &[255]]), 12);
+    judge.refuses_all("no end byte, 12", &raw(&[&full]), 12);
+    judge.refuses_all("segment byte before 14", &raw(&[&full, &[1]]), 12);
+    judge.refuses_all("segment byte of 255", &raw(&[&full, &[255]]), 12);
     let over: [(&str, &[u8]); 9] = [
         ("null, no end byte", &[1, 0]),
         ("no fixed bytes", &[1, 1]),
@@ -130,11 +130,6 @@ fn before_15(judge: &mut Judge) {
             let name = format!("{refusal} for {name} behind, {number}");
             judge.refuses(&name, &image, number, refusal);
         }
-        refuses_all(
-            judge,
-            &format!("{refusal} for {name} behind"),
-            &image,
-            refusal,
-        );
+        judge.refuses_all(&format!("{refusal} for {name} behind"), &image, refusal);
     }
 }

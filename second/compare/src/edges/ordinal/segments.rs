@@ -1,8 +1,6 @@
 //! Refusal 13: an entry's segment isn't in the table, or there is no CDh 3Fh.
 
-use super::{
-    ended, fixed, in_fixed, in_movable, module, movable, nulls, refuses_all, Judge, Minimal,
-};
+use super::{ended, fixed, in_fixed, in_movable, module, movable, nulls, Judge, Minimal};
 
 pub fn edges(judge: &mut Judge) {
     fixed_segments(judge);
@@ -29,7 +27,7 @@ fn fixed_segments(judge: &mut Judge) {
         let image = one_fixed(u16::from(count), count);
         judge.accepts(&name, &image, 1, in_fixed(u32::from(count)));
         let name = format!("fixed {} of {count}", count + 1);
-        refuses_all(judge, &name, &one_fixed(u16::from(count), count + 1), 13);
+        judge.refuses_all(&name, &one_fixed(u16::from(count), count + 1), 13);
     }
     // The low byte of the last three counts is under the number.
     for segments in [254, 255, 256, 257, 509] {
@@ -49,7 +47,7 @@ fn movable_segments(judge: &mut Judge) {
         let image = one_movable(u16::from(count), count);
         judge.accepts(&name, &image, 1, in_movable(u32::from(count)));
         let name = format!("movable {} of {count}", count + 1);
-        refuses_all(judge, &name, &one_movable(u16::from(count), count + 1), 13);
+        judge.refuses_all(&name, &one_movable(u16::from(count), count + 1), 13);
     }
     for segments in [255, 256, 257, 510] {
         let name = format!("movable 255 of {segments}");
@@ -57,7 +55,7 @@ fn movable_segments(judge: &mut Judge) {
     }
     for segments in [0, 1, 254, 255, 256, 510] {
         let name = format!("movable 0 of {segments}");
-        refuses_all(judge, &name, &one_movable(segments, 0), 13);
+        judge.refuses_all(&name, &one_movable(segments, 0), 13);
     }
     judge.refuses("movable 1 of 0", &one_movable(0, 1), 1, 13);
     judge.refuses("movable 255 of 1", &one_movable(1, 255), 1, 13);
@@ -104,6 +102,6 @@ fn later_bundles(judge: &mut Judge) {
         let table = ended(&[&fixed(1, 2), &nulls(300), &bad, &movable(2, 1)]);
         let image = module(2, &table);
         let name = format!("{:?} behind sound bundles", &bad[..2]);
-        refuses_all(judge, &name, &image, 13);
+        judge.refuses_all(&name, &image, 13);
     }
 }

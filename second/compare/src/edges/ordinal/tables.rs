@@ -1,6 +1,6 @@
 //! Refusal 7: the entry table's place and bytes, and a segment table far off.
 
-use super::{module, plain, refuses_all, Judge, Minimal, ONE_FIXED, PLAIN};
+use super::{module, plain, Judge, Minimal, ONE_FIXED, PLAIN};
 
 pub fn edges(judge: &mut Judge) {
     entry_table_ends(judge);
@@ -12,7 +12,7 @@ pub fn edges(judge: &mut Judge) {
 /// The bytes after the end byte lie in the image too.
 fn entry_table_ends(judge: &mut Judge) {
     judge.accepts("8 entry bytes end the image", &plain(), 1, PLAIN);
-    refuses_all(judge, "8 entry bytes, one past", &plain().length(143), 7);
+    judge.refuses_all("8 entry bytes, one past", &plain().length(143), 7);
     judge.refuses("9 entry bytes, one past", &plain().ne_word(0x06, 9), 1, 7);
     let last = |table: &[u8]| module(1, table);
     judge.accepts("the end byte ends the image", &last(&ONE_FIXED), 1, PLAIN);
@@ -22,12 +22,7 @@ fn entry_table_ends(judge: &mut Judge) {
     judge.refuses("65,535 entry bytes", &plain().ne_word(0x06, 0xFFFF), 1, 7);
     let at_end = plain().ne_word(0x04, 80);
     judge.refuses("8 entry bytes at the end", &at_end, 1, 7);
-    refuses_all(
-        judge,
-        "0 entry bytes at the end",
-        &at_end.ne_word(0x06, 0),
-        15,
-    );
+    judge.refuses_all("0 entry bytes at the end", &at_end.ne_word(0x06, 0), 15);
 }
 
 /// The table's place passes 16 bits: 64 + FFFFh.
@@ -38,8 +33,8 @@ fn great_places(judge: &mut Judge) {
     judge.refuses("the same, one past", &far.length(65_604), 1, 7);
     let most = plain().ne_word(0x04, 0xFFFF).ne_word(0x06, 0xFFFF);
     let whole = most.clone().length(131_134);
-    refuses_all(judge, "65,535 zeros at 65,599", &whole, 15);
-    refuses_all(judge, "the same, one past", &most.length(131_133), 7);
+    judge.refuses_all("65,535 zeros at 65,599", &whole, 15);
+    judge.refuses_all("the same, one past", &most.length(131_133), 7);
 }
 
 /// Only the count of segments matters here.

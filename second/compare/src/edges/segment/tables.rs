@@ -1,11 +1,9 @@
-//! Refusal 7: the segment table's records at its edge, and the entry table,
-//! whose content isn't read.
+//! Refusal 7: the segment table's records at its edge.
 
 use super::{module, plain, Judge, Minimal, PLAIN};
 
 pub fn edges(judge: &mut Judge) {
     segment_table(judge);
-    entry_table(judge);
     size_0(judge);
     overlaps(judge);
 }
@@ -29,38 +27,10 @@ fn segment_table(judge: &mut Judge) {
     judge.refuses("the same, one past", &far.length(65_606), 1, 7);
 }
 
-fn entry_table(judge: &mut Judge) {
-    let entries = |bytes, place| plain().ne_word(0x06, bytes).ne_word(0x04, place);
-    judge.accepts("1 entry byte ends the image", &entries(1, 79), 1, PLAIN);
-    judge.refuses("1 entry byte, one past", &entries(1, 80), 1, 7);
-    judge.accepts(
-        "80 entry bytes from the header on",
-        &entries(80, 0),
-        1,
-        PLAIN,
-    );
-    judge.refuses("81 entry bytes, one past", &entries(81, 0), 1, 7);
-    judge.refuses("80 entry bytes, one past", &entries(80, 1), 1, 7);
-    judge.refuses(
-        "entry place and bytes FFFFh",
-        &entries(0xFFFF, 0xFFFF),
-        1,
-        7,
-    );
-    let most = entries(0xFFFF, 0xFFFF);
-    let whole = most.clone().length(131_134);
-    judge.accepts("65,535 entry bytes at 65,599", &whole, 1, PLAIN);
-    judge.refuses("the same, one past", &most.length(131_133), 1, 7);
-}
-
 /// A table of size 0 is empty and its place isn't looked at.
 fn size_0(judge: &mut Judge) {
     let segments = Minimal::new().ne_word(0x22, 0xFFFF);
     judge.refuses("no segments at FFFFh", &segments, 1, 8);
-    let entries = plain().ne_word(0x04, 0xFFFF);
-    judge.accepts("no entry bytes at FFFFh", &entries, 1, PLAIN);
-    let all = entries.ne_word(0x28, 0xFFFF).ne_dword(0x2C, 0xFFFF_FFFF);
-    judge.accepts("three empty tables far outside", &all, 1, PLAIN);
 }
 
 /// Tables may overlap the header and each other.

@@ -1,16 +1,9 @@
 //! What the segment query doesn't look at.
 
-use super::{module, plain, Judge, PLAIN};
+use super::{module, Judge};
 
 pub fn edges(judge: &mut Judge) {
-    entry_table(judge);
     other_segments(judge);
-}
-
-fn entry_table(judge: &mut Judge) {
-    let filled = plain().put(136, &[0xFF; 8]);
-    let entries = filled.ne_word(0x04, 72).ne_word(0x06, 8);
-    judge.accepts("an entry table of FFh", &entries, 1, PLAIN);
 }
 
 /// Only the segment asked for is checked.

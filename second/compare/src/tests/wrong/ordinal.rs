@@ -2,47 +2,25 @@
 
 use super::fault::Fault;
 use super::walk::walk;
-use crate::calls::OrdinalCall;
-use crate::library::OrdinalResult;
-use reference::Entry;
+use crate::calls::{Function, OrdinalQuery};
+use crate::results::OrdinalResult;
 
 /// The right one, for the others to spoil.
-pub fn right(image: &[u8], number: u32) -> OrdinalResult {
-    answered(reference::ordinal(image, number))
+pub fn right(image: &[u8], number: &u32) -> OrdinalResult {
+    reference::ordinal(image, *number).into()
 }
 
 /// Right too, and the one that faults are put in.
-pub fn walked(image: &[u8], number: u32) -> OrdinalResult {
-    answered(walk(image, number, Fault::None))
-}
-
-fn answered(answer: Result<Entry, u32>) -> OrdinalResult {
-    match answer {
-        Err(refusal) => refused(refusal),
-        Ok(Entry {
-            segment,
-            offset,
-            flag,
-        }) => OrdinalResult {
-            refusal: 0,
-            segment,
-            offset,
-            flag,
-        },
-    }
+pub fn walked(image: &[u8], number: &u32) -> OrdinalResult {
+    walk(image, *number, Fault::None).into()
 }
 
 pub fn refused(refusal: u32) -> OrdinalResult {
-    OrdinalResult {
-        refusal,
-        segment: 0,
-        offset: 0,
-        flag: 0,
-    }
+    Err(refusal).into()
 }
 
 /// The offset is one less in a rare entry.
-pub fn rare_offset(image: &[u8], number: u32) -> OrdinalResult {
+pub fn rare_offset(image: &[u8], number: &u32) -> OrdinalResult {
     let mut result = right(image, number);
     if result.segment == 3 && result.flag % 16 == 5 && result.offset > 4 {
         result.offset -= 1;
@@ -51,7 +29,7 @@ pub fn rare_offset(image: &[u8], number: u32) -> OrdinalResult {
 }
 
 /// Refusals 12 and 13 change places.
-fn exchanged(image: &[u8], number: u32) -> OrdinalResult {
+fn exchanged(image: &[u8], number: &u32) -> OrdinalResult {
     match right(image, number) {
         OrdinalResult { refusal: 12, .. } => refused(13),
         OrdinalResult { refusal: 13, .. } => refused(12),
@@ -60,7 +38,7 @@ fn exchanged(image: &[u8], number: u32) -> OrdinalResult {
 }
 
 /// Refusal 15 leaves a value behind.
-fn unclean(image: &[u8], number: u32) -> OrdinalResult {
+fn unclean(image: &[u8], number: &u32) -> OrdinalResult {
     let mut result = right(image, number);
     if result.refusal == 15 {
         result.flag = 1;
@@ -69,7 +47,7 @@ fn unclean(image: &[u8], number: u32) -> OrdinalResult {
 }
 
 /// Ordinal 0 is refused as other numbers are.
-fn number_0_is_8(image: &[u8], number: u32) -> OrdinalResult {
+fn number_0_is_8(image: &[u8], number: &u32) -> OrdinalResult {
     match (right(image, number), number) {
         (OrdinalResult { refusal: 15, .. }, 0) => refused(8),
         (result, _) => result,
@@ -77,17 +55,17 @@ fn number_0_is_8(image: &[u8], number: u32) -> OrdinalResult {
 }
 
 /// What is certainly not covered is refused before the table is walked.
-fn early_15(image: &[u8], number: u32) -> OrdinalResult {
+fn early_15(image: &[u8], number: &u32) -> OrdinalResult {
     match right(image, number) {
         OrdinalResult {
             refusal: 12..=14, ..
-        } if number > 65_535 => refused(15),
+        } if *number > 65_535 => refused(15),
         result => result,
     }
 }
 
 /// Offset and flag change places.
-fn other_fields(image: &[u8], number: u32) -> OrdinalResult {
+fn other_fields(image: &[u8], number: &u32) -> OrdinalResult {
     let result = right(image, number);
     OrdinalResult {
         offset: result.flag,
@@ -96,13 +74,13 @@ fn other_fields(image: &[u8], number: u32) -> OrdinalResult {
     }
 }
 
-type Query = fn(&[u8], u32) -> OrdinalResult;
+type Query = fn(&[u8], &u32) -> OrdinalResult;
 
 /// The query whose walk has this fault.
 macro_rules! faulty {
     ($fault:ident) => {
         (stringify!($fault), |image, number| {
-            answered(walk(image, number, Fault::$fault))
+            walk(image, *number, Fault::$fault).into()
         })
     };
 }
@@ -113,9 +91,9 @@ pub const WRONG: [(&str, Query); 30] = [
     ("number 0 is 8", number_0_is_8),
     ("early 15", early_15),
     ("other fields", other_fields),
-    ("low word", |image, number| right(image, number & 0xFFFF)),
+    ("low word", |image, number| right(image, &(number & 0xFFFF))),
     ("from 0", |image, number| {
-        right(image, number.wrapping_add(1))
+        right(image, &number.wrapping_add(1))
     }),
     ("refusing", |_, _| refused(1)),
     faulty!(NullsUseNone),
@@ -142,6 +120,6 @@ pub const WRONG: [(&str, Query); 30] = [
     faulty!(StopsAtTheOrdinal),
 ];
 
-pub fn call(library: Query) -> OrdinalCall {
-    OrdinalCall { library }
+pub fn call(answer: Query) -> Function<OrdinalQuery> {
+    Function { answer }
 }

@@ -1,43 +1,19 @@
 //! Segment queries that are wrong in one respect.
 
-use crate::calls::SegmentCall;
-use crate::library::SegmentResult;
-use reference::Segment;
+use crate::calls::{Function, SegmentQuery};
+use crate::results::SegmentResult;
 
 /// The right one, for the others to spoil.
-pub fn right(image: &[u8], number: u32) -> SegmentResult {
-    match reference::segment(image, number) {
-        Err(refusal) => refused(refusal),
-        Ok(Segment {
-            start,
-            stored,
-            flags,
-            allocation,
-            records,
-        }) => SegmentResult {
-            refusal: 0,
-            start,
-            stored,
-            flags,
-            allocation,
-            records,
-        },
-    }
+pub fn right(image: &[u8], number: &u32) -> SegmentResult {
+    reference::segment(image, *number).into()
 }
 
 pub fn refused(refusal: u32) -> SegmentResult {
-    SegmentResult {
-        refusal,
-        start: 0,
-        stored: 0,
-        flags: 0,
-        allocation: 0,
-        records: 0,
-    }
+    Err(refusal).into()
 }
 
 /// The start is one more where four records follow an odd number of bytes.
-pub fn rare_start(image: &[u8], number: u32) -> SegmentResult {
+pub fn rare_start(image: &[u8], number: &u32) -> SegmentResult {
     let mut result = right(image, number);
     if result.records == 4 && result.stored % 2 == 1 {
         result.start += 1;
@@ -46,7 +22,7 @@ pub fn rare_start(image: &[u8], number: u32) -> SegmentResult {
 }
 
 /// Refusals 9 and 11 change places.
-fn exchanged(image: &[u8], number: u32) -> SegmentResult {
+fn exchanged(image: &[u8], number: &u32) -> SegmentResult {
     match right(image, number) {
         SegmentResult { refusal: 9, .. } => refused(11),
         SegmentResult { refusal: 11, .. } => refused(9),
@@ -55,7 +31,7 @@ fn exchanged(image: &[u8], number: u32) -> SegmentResult {
 }
 
 /// Refusal 8 leaves a value behind.
-pub fn unclean(image: &[u8], number: u32) -> SegmentResult {
+pub fn unclean(image: &[u8], number: &u32) -> SegmentResult {
     let mut result = right(image, number);
     if result.refusal == 8 {
         result.records = 1;
@@ -64,12 +40,12 @@ pub fn unclean(image: &[u8], number: u32) -> SegmentResult {
 }
 
 /// Only the number's low word is looked at.
-fn low_word(image: &[u8], number: u32) -> SegmentResult {
-    right(image, number & 0xFFFF)
+fn low_word(image: &[u8], number: &u32) -> SegmentResult {
+    right(image, &(number & 0xFFFF))
 }
 
 /// The image may be one byte longer.
-fn longer(image: &[u8], number: u32) -> SegmentResult {
+fn longer(image: &[u8], number: &u32) -> SegmentResult {
     match image.len() {
         16_777_217 => right(&image[..16_777_216], number),
         _ => right(image, number),
@@ -77,11 +53,11 @@ fn longer(image: &[u8], number: u32) -> SegmentResult {
 }
 
 /// All images are refused.
-pub fn refusing(_: &[u8], _: u32) -> SegmentResult {
+pub fn refusing(_: &[u8], _: &u32) -> SegmentResult {
     refused(1)
 }
 
-type Query = fn(&[u8], u32) -> SegmentResult;
+type Query = fn(&[u8], &u32) -> SegmentResult;
 
 pub const WRONG: [(&str, Query); 5] = [
     ("exchanged", exchanged),
@@ -91,6 +67,6 @@ pub const WRONG: [(&str, Query); 5] = [
     ("refusing", refusing),
 ];
 
-pub fn call(library: Query) -> SegmentCall {
-    SegmentCall { library }
+pub fn call(answer: Query) -> Function<SegmentQuery> {
+    Function { answer }
 }

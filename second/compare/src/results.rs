@@ -1,0 +1,57 @@
+//! The results of the exported functions, beside the reference's values that
+//! they stand for.
+
+use crate::answer::Answer;
+use reference::{Entry, Segment};
+use std::fmt::Debug;
+
+/// Values that can be written down as numbers alone.
+pub trait Values: PartialEq + Debug {
+    /// One for each, in the order of the result's fields.
+    type Fields: Copy;
+
+    fn of(fields: Self::Fields) -> Self;
+}
+
+/// Declares a result: the refusal, then fields with the names that they have in
+/// the reference's values.
+macro_rules! result {
+    ($function:literal $result:ident of $values:ident: $($field:ident),+) => {
+        #[doc = concat!("The result of ", $function, ".")]
+        #[repr(C)]
+        #[derive(Clone, Copy, Debug, PartialEq, Eq)]
+        pub struct $result {
+            pub refusal: u32,
+            $(pub $field: u32,)+
+        }
+
+        impl Values for $values {
+            type Fields = [u32; [$(stringify!($field)),+].len()];
+
+            fn of([$($field),+]: Self::Fields) -> Self {
+                $values { $($field),+ }
+            }
+        }
+
+        impl From<$result> for Answer<$values> {
+            fn from(result: $result) -> Self {
+                let values = $values { $($field: result.$field),+ };
+                let zeros = $values { $($field: 0),+ };
+                Answer::of_fields(result.refusal, values, &zeros)
+            }
+        }
+
+        /// What the function is to give for this answer.
+        impl From<Result<$values, u32>> for $result {
+            fn from(answer: Result<$values, u32>) -> Self {
+                match answer {
+                    Ok(values) => $result { refusal: 0, $($field: values.$field),+ },
+                    Err(refusal) => $result { refusal, $($field: 0),+ },
+                }
+            }
+        }
+    };
+}
+
+result!("`ne_segment`" SegmentResult of Segment: start, stored, flags, allocation, records);
+result!("`ne_ordinal`" OrdinalResult of Entry: segment, offset, flag);
