@@ -2,15 +2,25 @@
 //!
 //! A call has a file of its own and one line in [`all`].
 
+mod module;
+mod name_by_bytes;
+mod name_by_number;
 mod numbers;
 mod ordinal;
 mod query;
 mod request;
+mod resource_by_number;
+mod resource_by_words;
 mod segment;
 
+pub use module::ModuleQuery;
+pub use name_by_bytes::NameByBytes;
+pub use name_by_number::NameByNumber;
 pub use ordinal::OrdinalQuery;
 pub use query::{FieldsOf, Function, Query};
-pub use request::Request;
+pub use request::{Request, Text, Words};
+pub use resource_by_number::ResourceByNumber;
+pub use resource_by_words::ResourceByWords;
 pub use segment::SegmentQuery;
 
 use crate::answer::Answer;
@@ -49,6 +59,11 @@ pub fn all() -> Vec<Box<dyn Call>> {
     vec![
         Box::new(Function::<SegmentQuery>::exported()),
         Box::new(Function::<OrdinalQuery>::exported()),
+        Box::new(Function::<NameByNumber>::exported()),
+        Box::new(Function::<NameByBytes>::exported()),
+        Box::new(Function::<ModuleQuery>::exported()),
+        Box::new(Function::<ResourceByNumber>::exported()),
+        Box::new(Function::<ResourceByWords>::exported()),
     ]
 }
 

@@ -7,7 +7,14 @@
 mod header;
 pub mod judge;
 mod minimal;
+pub mod module;
+pub mod name_by_bytes;
+pub mod name_by_number;
+mod names;
 pub mod ordinal;
+pub mod resource_by_number;
+pub mod resource_by_words;
+mod resources;
 pub mod segment;
 
 use crate::answer::Answer;

@@ -2,7 +2,7 @@
 //!
 //! All unsafe code is here.
 
-use crate::results::{OrdinalResult, SegmentResult};
+use crate::results::{ModuleResult, NameResult, OrdinalResult, ResourceResult, SegmentResult};
 
 /// Bytes that are lent for a call.
 #[derive(Clone, Copy)]
@@ -31,9 +31,30 @@ impl Lent<'_> {
 /// An exported function that takes an image and a number.
 type ByNumber<T> = unsafe extern "C" fn(*const u8, usize, u32) -> T;
 
+/// One that takes two words beside the image.
+type ByWords<T> = unsafe extern "C" fn(*const u8, usize, u32, u32) -> T;
+
+/// One that takes other bytes beside the image.
+type ByBytes<T> = unsafe extern "C" fn(*const u8, usize, *const u8, usize) -> T;
+
 extern "C" {
     fn ne_segment(image: *const u8, image_length: usize, number: u32) -> SegmentResult;
     fn ne_ordinal(image: *const u8, image_length: usize, number: u32) -> OrdinalResult;
+    fn ne_name_by_number(image: *const u8, image_length: usize, number: u32) -> NameResult;
+    fn ne_name_by_bytes(
+        image: *const u8,
+        image_length: usize,
+        name: *const u8,
+        name_length: usize,
+    ) -> NameResult;
+    fn ne_module(image: *const u8, image_length: usize, number: u32) -> ModuleResult;
+    fn ne_resource_by_number(image: *const u8, image_length: usize, number: u32) -> ResourceResult;
+    fn ne_resource_by_words(
+        image: *const u8,
+        image_length: usize,
+        type_word: u32,
+        id_word: u32,
+    ) -> ResourceResult;
 }
 
 pub fn segment(image: Lent, number: u32) -> SegmentResult {
@@ -44,9 +65,47 @@ pub fn ordinal(image: Lent, number: u32) -> OrdinalResult {
     by_number(ne_ordinal, image, number)
 }
 
-/// `function` is one of those above.
+pub fn name_by_number(image: Lent, number: u32) -> NameResult {
+    by_number(ne_name_by_number, image, number)
+}
+
+pub fn name_by_bytes(image: Lent, name: Lent) -> NameResult {
+    by_bytes(ne_name_by_bytes, image, name)
+}
+
+pub fn module(image: Lent, number: u32) -> ModuleResult {
+    by_number(ne_module, image, number)
+}
+
+pub fn resource_by_number(image: Lent, number: u32) -> ResourceResult {
+    by_number(ne_resource_by_number, image, number)
+}
+
+pub fn resource_by_words(image: Lent, type_word: u32, id_word: u32) -> ResourceResult {
+    by_words(ne_resource_by_words, image, type_word, id_word)
+}
+
+// `function` is one of those above.
+
 fn by_number<T>(function: ByNumber<T>, image: Lent, number: u32) -> T {
     // SAFETY: pointer and length are those of one slice, which is lent for the
     // call, or there are no bytes to be read; the result holds numbers only.
     unsafe { function(image.pointer(), image.length(), number) }
+}
+
+fn by_words<T>(function: ByWords<T>, image: Lent, first: u32, second: u32) -> T {
+    // SAFETY: as in `by_number`.
+    unsafe { function(image.pointer(), image.length(), first, second) }
+}
+
+fn by_bytes<T>(function: ByBytes<T>, image: Lent, bytes: Lent) -> T {
+    // SAFETY: as in `by_number`, and so for the other bytes.
+    unsafe {
+        function(
+            image.pointer(),
+            image.length(),
+            bytes.pointer(),
+            bytes.length(),
+        )
+    }
 }

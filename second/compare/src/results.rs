@@ -2,7 +2,7 @@
 //! they stand for.
 
 use crate::answer::Answer;
-use reference::{Entry, Segment};
+use reference::{Entry, Module, Name, Resource, Segment};
 use std::fmt::Debug;
 
 /// Values that can be written down as numbers alone.
@@ -55,3 +55,6 @@ macro_rules! result {
 
 result!("`ne_segment`" SegmentResult of Segment: start, stored, flags, allocation, records);
 result!("`ne_ordinal`" OrdinalResult of Entry: segment, offset, flag);
+result!("the name queries" NameResult of Name: number, text_at, text_len, ordinal);
+result!("`ne_module`" ModuleResult of Module: text_at, text_len);
+result!("the resource queries" ResourceResult of Resource: type_, id, flags, data_at, data_len);

@@ -1,6 +1,8 @@
 //! What is asked for beside the image.
 
-/// A request: a number, for one.
+use crate::library::Lent;
+
+/// A number, two words, or a name's bytes.
 pub trait Request: Clone + 'static {
     /// As it is printed.
     fn text(&self) -> String;
@@ -9,5 +11,53 @@ pub trait Request: Clone + 'static {
 impl Request for u32 {
     fn text(&self) -> String {
         format!("number {self}")
+    }
+}
+
+/// A resource's type and id.
+pub type Words = (u32, u32);
+
+impl Request for Words {
+    fn text(&self) -> String {
+        let (type_word, id_word) = self;
+        format!("type {type_word:X}h, id {id_word:X}h")
+    }
+}
+
+/// A name's bytes; an empty name may be handed over at any address.
+#[derive(Clone, Debug, PartialEq, Eq, PartialOrd, Ord)]
+pub enum Text {
+    Bytes(Vec<u8>),
+    NothingAt(usize),
+}
+
+impl Text {
+    pub fn of(bytes: &[u8]) -> Self {
+        Text::Bytes(bytes.to_vec())
+    }
+
+    pub fn bytes(&self) -> &[u8] {
+        match self {
+            Text::Bytes(bytes) => bytes,
+            Text::NothingAt(_) => &[],
+        }
+    }
+
+    pub fn lent(&self) -> Lent<'_> {
+        match self {
+            Text::Bytes(bytes) => Lent::Bytes(bytes),
+            Text::NothingAt(address) => Lent::NothingAt(*address),
+        }
+    }
+}
+
+impl Request for Text {
+    fn text(&self) -> String {
+        match self {
+            Text::Bytes(bytes) => {
+                format!("name \"{}\" of {} bytes", bytes.escape_ascii(), bytes.len())
+            }
+            Text::NothingAt(address) => format!("no name, at address {address:X}h"),
+        }
     }
 }

@@ -1,0 +1,73 @@
+//! The edges of the resource query by type and id.
+
+mod first_match;
+mod words;
+
+use super::header::{self, HeaderEdges, Table};
+use super::judge::{self, Edges};
+use super::minimal::Minimal;
+use super::resources::{self, ResourceEdges};
+use crate::calls::{ResourceByWords, Words};
+
+type Judge = judge::Judge<ResourceByWords>;
+
+pub fn by_subject() -> Vec<Edges<ResourceByWords>> {
+    let mut edges = header::by_subject();
+    edges.extend(resources::by_subject());
+    edges.push(("words (19)", words::edges));
+    edges.push(("first match", first_match::edges));
+    edges
+}
+
+impl ResourceEdges for ResourceByWords {
+    fn request_for(_: u32, type_word: u32, id_word: u32) -> Words {
+        (type_word, id_word)
+    }
+
+    const NOT_THERE: u32 = 19;
+}
+
+impl HeaderEdges for ResourceByWords {
+    fn plain() -> Minimal {
+        resources::plain()
+    }
+
+    const NEEDED_FROM: usize = resources::NEEDED_FROM;
+
+    fn asked() -> Words {
+        (0x8001, 0x8002)
+    }
+
+    const PLAIN: [u32; 5] = resources::PLAIN;
+
+    /// Other words, words without the high bit, and no words at all.
+    fn others() -> Vec<Words> {
+        vec![
+            (0x8001, 0x8001),
+            (0x8002, 0x8002),
+            (0x8002, 0x8001),
+            (0, 0),
+            (0x0001, 0x8002),
+            (0x8001, 0x0002),
+            (0x0001_8001, 0x8002),
+            (0x8001, 0xFFFF_8002),
+            (0xFFFF_FFFF, 0xFFFF_FFFF),
+        ]
+    }
+
+    fn unsound() -> Minimal {
+        resources::unsound()
+    }
+
+    fn in_header(place: usize) -> Minimal {
+        resources::in_header(place)
+    }
+
+    fn fields_in_header(_: usize) -> [u32; 5] {
+        resources::IN_HEADER
+    }
+
+    const WITHOUT_TABLES: u32 = 19;
+
+    const READS: &'static [Table] = &resources::READS;
+}

@@ -1,0 +1,45 @@
+//! The strings of both name lists.
+
+use super::{dword, header_at, ne_word, table};
+
+/// A string that is there with its length byte and text.
+#[derive(Clone, Copy)]
+pub struct Name<'a> {
+    pub text: &'a [u8],
+    /// Whether it is its list's first.
+    pub first: bool,
+    pub resident: bool,
+}
+
+/// Those of the resident list, then those of the other.
+pub fn names(image: &[u8]) -> Vec<Name<'_>> {
+    let mut names = Vec::new();
+    add(table(image, 0x26).unwrap_or_default(), true, &mut names);
+    add(nonresident(image).unwrap_or_default(), false, &mut names);
+    names
+}
+
+/// The nonresident names, or the part of them that lies in the image.
+fn nonresident(image: &[u8]) -> Option<&[u8]> {
+    let place = dword(image, header_at(image)?.checked_add(0x2C)?)?;
+    let behind = image.get(place..)?;
+    let size = ne_word(image, 0x20)? as usize;
+    Some(&behind[..size.min(behind.len())])
+}
+
+fn add<'a>(list: &'a [u8], resident: bool, names: &mut Vec<Name<'a>>) {
+    let mut rest = list;
+    let mut first = true;
+    while let [length @ 1..=255, behind @ ..] = rest {
+        let Some((text, behind)) = behind.split_at_checked(usize::from(*length)) else {
+            return;
+        };
+        names.push(Name {
+            text,
+            first,
+            resident,
+        });
+        first = false;
+        rest = behind.get(2..).unwrap_or_default();
+    }
+}
