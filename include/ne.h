@@ -1,12 +1,13 @@
 /*
  * Parchgable: a proved reader of 16-bit Windows modules (New Executable, "NE").
  *
- * Every function takes any bytes as an image and any number as a request, and returns. None of them allocates, keeps a
- * pointer, reads outside the memory that is lent to it or uses any state of its own, so all may be called from several
- * threads at once.
+ * Every function takes any bytes as an image and any number or name as a request, and returns. None of them allocates,
+ * keeps a pointer, reads outside the memory that is lent to it or uses any state of its own, so all may be called from
+ * several threads at once.
  *
- * An image is a pointer and its length in bytes, from the first byte of the file ("MZ") on. The pointer to an empty image
- * may be anything. Places are counted from the file's start.
+ * An image is a pointer and its length in bytes, from the first byte of the file ("MZ") on. A name that is asked for is a
+ * pointer and its length too. The pointer to an empty image or name may be anything. Places are counted from the file's
+ * start.
  *
  * A result's `refusal` is 0 if the request was accepted. Otherwise it is the number of the first check that failed, and
  * every other field is 0:
@@ -26,6 +27,12 @@
  *     13  an entry's segment is not in the segment table, or a movable entry has no CDh 3Fh
  *     14  the entry table has over 65,535 ordinals
  *     15  the ordinal asked for is not covered by the entry table, or is null
+ *     16  a name list does not end inside the image or inside its byte count, or a module's string is empty or leaves the
+ *         image
+ *     17  the name asked for is not found
+ *     18  the resource table leaves the image, or its shift is over 15
+ *     19  the resource asked for is not found
+ *     20  the data of the resource that was found leaves the image
  */
 #ifndef NE_H
 #define NE_H
@@ -63,6 +70,57 @@ struct ne_ordinal_result {
  * is, then 15.
  */
 struct ne_ordinal_result ne_ordinal(const uint8_t *image, size_t image_len, uint32_t number);
+
+/* One string of the resident or the nonresident names. */
+struct ne_name_result {
+    uint32_t refusal;
+    uint32_t number;   /* its number, counted from 1: the resident names first, each list's first string included */
+    uint32_t text_at;  /* the place of its first text byte, which stands behind the length byte */
+    uint32_t text_len; /* how many text bytes there are, 1 to 255 */
+    uint32_t ordinal;  /* the ordinal word behind the text, 0 to 65,535 */
+};
+
+/* The name of a number, counted from 1. Refusals: 1 to 7, then 16 for either list, whatever the number is, then 8. */
+struct ne_name_result ne_name_by_number(const uint8_t *image, size_t image_len, uint32_t number);
+
+/*
+ * The first name that has exactly these bytes, in the resident list from its second string on, then in the nonresident
+ * list from its second string on. An empty name, or one of over 255 bytes, is not found. Refusals: 1 to 7, then 16 for
+ * either list, whatever the name is, then 17.
+ */
+struct ne_name_result ne_name_by_bytes(const uint8_t *image, size_t image_len, const uint8_t *name, size_t name_len);
+
+/* The string of one module reference. */
+struct ne_module_result {
+    uint32_t refusal;
+    uint32_t text_at;  /* the place of its first text byte, which stands behind the length byte */
+    uint32_t text_len; /* how many text bytes there are, 1 to 255 */
+};
+
+/* The module of a number, counted from 1. Refusals: 1 to 7, then 8, then 16 for its own string alone. */
+struct ne_module_result ne_module(const uint8_t *image, size_t image_len, uint32_t number);
+
+/* One resource of the resource table. */
+struct ne_resource_result {
+    uint32_t refusal;
+    uint32_t type;     /* the type word of its block */
+    uint32_t id;       /* its id word */
+    uint32_t flags;    /* its flag word */
+    uint32_t data_at;  /* the place of its data */
+    uint32_t data_len; /* how many bytes of data there are */
+};
+
+/*
+ * The resource of a number, counted from 1 through all types. Refusals: 1 to 7, then 18 for the whole table, whatever the
+ * number is, then 8, then 20.
+ */
+struct ne_resource_result ne_resource_by_number(const uint8_t *image, size_t image_len, uint32_t number);
+
+/*
+ * The first resource that has this type word and this id word. A word without the bit 8000h, or over FFFFh, finds nothing.
+ * Refusals: 1 to 7, then 18 for the whole table, whatever the words are, then 19, then 20.
+ */
+struct ne_resource_result ne_resource_by_words(const uint8_t *image, size_t image_len, uint32_t type, uint32_t id);
 
 #ifdef __cplusplus
 }

@@ -25,6 +25,26 @@ SAME(offsetof(struct ne_ordinal_result, segment), 4);
 SAME(offsetof(struct ne_ordinal_result, offset), 8);
 SAME(offsetof(struct ne_ordinal_result, flag), 12);
 
+SAME(sizeof(struct ne_name_result), 20);
+SAME(offsetof(struct ne_name_result, refusal), 0);
+SAME(offsetof(struct ne_name_result, number), 4);
+SAME(offsetof(struct ne_name_result, text_at), 8);
+SAME(offsetof(struct ne_name_result, text_len), 12);
+SAME(offsetof(struct ne_name_result, ordinal), 16);
+
+SAME(sizeof(struct ne_module_result), 12);
+SAME(offsetof(struct ne_module_result, refusal), 0);
+SAME(offsetof(struct ne_module_result, text_at), 4);
+SAME(offsetof(struct ne_module_result, text_len), 8);
+
+SAME(sizeof(struct ne_resource_result), 24);
+SAME(offsetof(struct ne_resource_result, refusal), 0);
+SAME(offsetof(struct ne_resource_result, type), 4);
+SAME(offsetof(struct ne_resource_result, id), 8);
+SAME(offsetof(struct ne_resource_result, flags), 12);
+SAME(offsetof(struct ne_resource_result, data_at), 16);
+SAME(offsetof(struct ne_resource_result, data_len), 20);
+
 static int failures = 0;
 
 static void expect(const char *what, uint32_t got, uint32_t wanted)
@@ -41,16 +61,36 @@ static void put_word(uint8_t *at, unsigned word)
     at[1] = (uint8_t)(word >> 8);
 }
 
+#define SIZE 300
+
 /* Two null ordinals, a fixed entry and a movable one, ordinals 3 and 4, in segment 1. */
 static const uint8_t entry_table[] = {2, 0, 1, 1, 0xa5, 0x34, 0x12, 1, 255, 0x5a, 0xcd, 0x3f, 1, 0x78, 0x56, 0};
 
+/* The resident names: "MOD", and "Alpha" with the ordinal word 1234h. */
+static const uint8_t resident[] = "\3MOD\0\0\5Alpha\x34\x12";
+
+/* The nonresident names: "About", and "Omega!" with the ordinal word ABCDh. */
+static const uint8_t nonresident[] = "\5About\0\0\6Omega!\xcd\xab";
+
+/* The imported names: an empty string, "GDI" and "KERNEL". The first and last are the modules' strings. */
+static const uint8_t imported[] = "\0\3GDI\6KERNEL";
+static const uint8_t modules[] = {0, 0, 5, 0};
+
+/* Shift 4, and one resource: offset 3, length 2, flags 0C30h, id 8007h and type 8006h. A block of type 8009h is empty. */
+static const uint8_t resource_table[] = {
+    4, 0,                                               /* shift */
+    9, 0x80, 0, 0, 1, 2, 3, 4,                          /* type, count, reserved */
+    6, 0x80, 1, 0, 1, 2, 3, 4,                          /* type, count, reserved */
+    3, 0, 2, 0, 0x30, 0x0c, 7, 0x80, 5, 6, 7, 8, 0, 0}; /* offset, length, flags, id, reserved, and the end */
+
 /*
  * A module with the NE header at 64, one segment record at 128 and the segment in sector 9 of 16 bytes. The entry table
- * stands behind the segment's records, at 184.
+ * stands behind the segment's records, at 184; then follow the resident names at 200, the nonresident ones at 220, the
+ * modules at 240, the imported names at 244 and the resources at 260.
  */
-static void make(uint8_t image[256])
+static void make(uint8_t image[SIZE])
 {
-    memset(image, 0, 256);
+    memset(image, 0, SIZE);
     memcpy(image, "MZ", 2);
     image[0x3c] = 64;
     memcpy(image + 64, "NE", 2);
@@ -65,12 +105,24 @@ static void make(uint8_t image[256])
     put_word(image + 134, 0x1234);
     put_word(image + 144 + 20, 2);
     memcpy(image + 184, entry_table, sizeof entry_table);
+    put_word(image + 64 + 0x1e, sizeof modules / 2);
+    put_word(image + 64 + 0x20, sizeof nonresident);
+    put_word(image + 64 + 0x24, 260 - 64);
+    put_word(image + 64 + 0x26, 200 - 64);
+    put_word(image + 64 + 0x28, 240 - 64);
+    put_word(image + 64 + 0x2a, 244 - 64);
+    put_word(image + 64 + 0x2c, 220);
+    memcpy(image + 200, resident, sizeof resident);
+    memcpy(image + 220, nonresident, sizeof nonresident);
+    memcpy(image + 240, modules, sizeof modules);
+    memcpy(image + 244, imported, sizeof imported);
+    memcpy(image + 260, resource_table, sizeof resource_table);
 }
 
 /* Every field of an accepted answer has a number of its own, so a field in a wrong place would show. */
 static void segment_accepted(void)
 {
-    uint8_t image[256];
+    uint8_t image[SIZE];
     struct ne_segment_result r;
     make(image);
     r = ne_segment(image, sizeof image, 1);
@@ -84,7 +136,7 @@ static void segment_accepted(void)
 
 static void ordinal_accepted(void)
 {
-    uint8_t image[256];
+    uint8_t image[SIZE];
     struct ne_ordinal_result r;
     make(image);
     r = ne_ordinal(image, sizeof image, 3);
@@ -115,21 +167,23 @@ static void ordinal_refused(const char *what, const uint8_t *image, size_t len, 
 
 static void segments(void)
 {
-    uint8_t image[256];
+    uint8_t image[SIZE];
     make(image);
     segment_accepted();
     segment_refused("an empty image", NULL, 0, 1, 1);
     segment_refused("segment 0", image, sizeof image, 0, 8);
     segment_refused("segment 2 of 1", image, sizeof image, 2, 8);
     segment_refused("the largest number", image, sizeof image, UINT32_MAX, 8);
-    /* Without its entry table the image may be cut behind the count of two records. */
+    /* Without the tables behind them the image may be cut in the segment's two records. */
     put_word(image + 64 + 0x06, 0);
+    put_word(image + 64 + 0x1e, 0);
+    put_word(image + 64 + 0x20, 0);
     segment_refused("a record list that is cut", image, 144 + 20 + 2 + 15, 1, 9);
 }
 
 static void ordinals(void)
 {
-    uint8_t image[256];
+    uint8_t image[SIZE];
     make(image);
     ordinal_accepted();
     ordinal_refused("ordinals of an empty image", NULL, 0, 1, 1);
@@ -143,9 +197,129 @@ static void ordinals(void)
     ordinal_refused("an entry table that is cut", image, sizeof image, 3, 12);
 }
 
+static void name_accepted(const char *what, struct ne_name_result r, uint32_t number, uint32_t text_at, uint32_t text_len,
+                          uint32_t ordinal)
+{
+    expect(what, r.refusal, 0);
+    expect(what, r.number, number);
+    expect(what, r.text_at, text_at);
+    expect(what, r.text_len, text_len);
+    expect(what, r.ordinal, ordinal);
+}
+
+static void name_refused(const char *what, struct ne_name_result r, uint32_t refusal)
+{
+    expect(what, r.refusal, refusal);
+    expect(what, r.number | r.text_at | r.text_len | r.ordinal, 0);
+}
+
+static void names_by_number(void)
+{
+    uint8_t image[SIZE];
+    make(image);
+    name_accepted("the first name", ne_name_by_number(image, sizeof image, 1), 1, 201, 3, 0);
+    name_accepted("the second name", ne_name_by_number(image, sizeof image, 2), 2, 207, 5, 0x1234);
+    name_accepted("the fourth name", ne_name_by_number(image, sizeof image, 4), 4, 229, 6, 0xabcd);
+    name_refused("names of an empty image", ne_name_by_number(NULL, 0, 1), 1);
+    name_refused("name 0", ne_name_by_number(image, sizeof image, 0), 8);
+    name_refused("name 5 of 4", ne_name_by_number(image, sizeof image, 5), 8);
+    name_refused("the largest name", ne_name_by_number(image, sizeof image, UINT32_MAX), 8);
+    put_word(image + 64 + 0x20, sizeof nonresident - 1);
+    name_refused("a name list that is cut", ne_name_by_number(image, sizeof image, 1), 16);
+}
+
+static struct ne_name_result find(const uint8_t *image, const char *name)
+{
+    return ne_name_by_bytes(image, SIZE, (const uint8_t *)name, strlen(name));
+}
+
+static void names_by_bytes(void)
+{
+    uint8_t image[SIZE];
+    uint8_t *nowhere = NULL;
+    make(image);
+    name_accepted("Alpha", find(image, "Alpha"), 2, 207, 5, 0x1234);
+    name_accepted("Omega!", find(image, "Omega!"), 4, 229, 6, 0xabcd);
+    name_accepted("Omega! without an end", ne_name_by_bytes(image, sizeof image, image + 229, 6), 4, 229, 6, 0xabcd);
+    name_refused("a name in an empty image", ne_name_by_bytes(NULL, 0, image, 1), 1);
+    name_refused("alpha", find(image, "alpha"), 17);
+    name_refused("a first string", find(image, "MOD"), 17);
+    name_refused("a name cut short", find(image, "Omega"), 17);
+    name_refused("no bytes", find(image, ""), 17);
+    name_refused("no bytes at no place", ne_name_by_bytes(image, sizeof image, nowhere, 0), 17);
+    name_refused("a whole image as a name", ne_name_by_bytes(image, sizeof image, image, sizeof image), 17);
+    put_word(image + 64 + 0x26, 0xffff);
+    name_refused("a name list outside", find(image, "Alpha"), 16);
+}
+
+static void module_refused(const char *what, struct ne_module_result r, uint32_t refusal)
+{
+    expect(what, r.refusal, refusal);
+    expect(what, r.text_at | r.text_len, 0);
+}
+
+static void module_names(void)
+{
+    uint8_t image[SIZE];
+    struct ne_module_result r;
+    make(image);
+    r = ne_module(image, sizeof image, 2);
+    expect("refusal of a module", r.refusal, 0);
+    expect("text of a module", r.text_at, 250);
+    expect("length of a module", r.text_len, 6);
+    module_refused("modules of an empty image", ne_module(NULL, 0, 1), 1);
+    module_refused("a module with an empty string", ne_module(image, sizeof image, 1), 16);
+    module_refused("module 0", ne_module(image, sizeof image, 0), 8);
+    module_refused("module 3 of 2", ne_module(image, sizeof image, 3), 8);
+    module_refused("the largest module", ne_module(image, sizeof image, UINT32_MAX), 8);
+}
+
+static void resource_accepted(const char *what, struct ne_resource_result r)
+{
+    expect(what, r.refusal, 0);
+    expect(what, r.type, 0x8006);
+    expect(what, r.id, 0x8007);
+    expect(what, r.flags, 0x0c30);
+    expect(what, r.data_at, 48);
+    expect(what, r.data_len, 32);
+}
+
+static void resource_refused(const char *what, struct ne_resource_result r, uint32_t refusal)
+{
+    expect(what, r.refusal, refusal);
+    expect(what, r.type | r.id | r.flags | r.data_at | r.data_len, 0);
+}
+
+static void resources(void)
+{
+    uint8_t image[SIZE];
+    make(image);
+    resource_accepted("resource 1", ne_resource_by_number(image, sizeof image, 1));
+    resource_accepted("resource 8006h, 8007h", ne_resource_by_words(image, sizeof image, 0x8006, 0x8007));
+    resource_refused("resources of an empty image", ne_resource_by_number(NULL, 0, 1), 1);
+    resource_refused("words in an empty image", ne_resource_by_words(NULL, 0, 0x8006, 0x8007), 1);
+    resource_refused("resource 0", ne_resource_by_number(image, sizeof image, 0), 8);
+    resource_refused("resource 2 of 1", ne_resource_by_number(image, sizeof image, 2), 8);
+    resource_refused("the largest resource", ne_resource_by_number(image, sizeof image, UINT32_MAX), 8);
+    resource_refused("id before type", ne_resource_by_words(image, sizeof image, 0x8007, 0x8006), 19);
+    resource_refused("a type without its bit", ne_resource_by_words(image, sizeof image, 0x0006, 0x8007), 19);
+    resource_refused("a type over 16 bits", ne_resource_by_words(image, sizeof image, 0x18006, 0x8007), 19);
+    resource_refused("an id over 16 bits", ne_resource_by_words(image, sizeof image, 0x8006, 0x18007), 19);
+    put_word(image + 260 + 18, 0xffff);
+    resource_refused("data of a number outside", ne_resource_by_number(image, sizeof image, 1), 20);
+    resource_refused("data of words outside", ne_resource_by_words(image, sizeof image, 0x8006, 0x8007), 20);
+    put_word(image + 260, 16);
+    resource_refused("a number with shift 16", ne_resource_by_number(image, sizeof image, 1), 18);
+    resource_refused("words with shift 16", ne_resource_by_words(image, sizeof image, 0x8006, 0x8007), 18);
+}
+
 int main(void)
 {
     segments();
     ordinals();
+    names_by_number();
+    names_by_bytes();
+    module_names();
+    resources();
     return failures != 0;
 }
