@@ -41,8 +41,9 @@ pub trait Call {
     /// The answers that it can give; 0 is acceptance. Each must be reached.
     fn answers(&self) -> &'static [u32];
 
-    /// Demands the answers written out by hand of both programs.
-    fn edges(&self) -> Tally;
+    /// Demands the answers written out by hand of both programs, one subject
+    /// after the other as the iterator goes on.
+    fn edges(&self) -> Box<dyn Iterator<Item = Tally>>;
 
     /// Makes one request, numbered under [`REQUESTS`], of both programs. The
     /// answer is noted if they agree.

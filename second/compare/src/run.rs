@@ -20,8 +20,8 @@ pub fn run(calls: &[Box<dyn Call>], options: &Options) -> Tally {
     let chosen = Chosen::of(calls, options);
     let mut tally = Tally::default();
     if chosen.edges {
-        for call in &chosen.calls {
-            tally.add(call.edges());
+        for edges in chosen.calls.iter().flat_map(|call| call.edges()) {
+            tally.add(edges);
         }
     }
     let mut seen = Seen::default();

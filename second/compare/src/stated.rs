@@ -21,23 +21,36 @@ pub fn module_count(image: &[u8]) -> u32 {
 }
 
 /// A word of the NE header.
-fn ne_word(image: &[u8], offset: usize) -> Option<u32> {
+pub fn ne_word(image: &[u8], offset: usize) -> Option<u32> {
     word(image, header_at(image)?.checked_add(offset)?)
 }
 
 /// The place of the NE header.
-fn header_at(image: &[u8]) -> Option<usize> {
+pub fn header_at(image: &[u8]) -> Option<usize> {
     dword(image, 0x3C)
 }
 
-/// The bytes from the place on that the word at this offset of the NE header
-/// gives.
-fn table(image: &[u8], offset: usize) -> Option<&[u8]> {
-    let place = ne_word(image, offset)? as usize;
-    image.get(header_at(image)?.checked_add(place)?..)
+/// The place that the word at this offset of the NE header gives.
+pub fn place(image: &[u8], offset: usize) -> Option<usize> {
+    header_at(image)?.checked_add(ne_word(image, offset)? as usize)
 }
 
-fn word(bytes: &[u8], at: usize) -> Option<u32> {
+/// The bytes from that place on.
+fn table(image: &[u8], offset: usize) -> Option<&[u8]> {
+    image.get(place(image, offset)?..)
+}
+
+/// The nonresident names' place, which counts from the file's start.
+pub fn nonresident_place(image: &[u8]) -> Option<usize> {
+    dword(image, header_at(image)?.checked_add(0x2C)?)
+}
+
+/// Their bytes.
+pub fn nonresident_size(image: &[u8]) -> Option<usize> {
+    Some(ne_word(image, 0x20)? as usize)
+}
+
+pub fn word(bytes: &[u8], at: usize) -> Option<u32> {
     let word = bytes.get(at..at.checked_add(2)?)?;
     Some(u32::from(word[0]) | u32::from(word[1]) << 8)
 }

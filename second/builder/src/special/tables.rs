@@ -8,6 +8,7 @@ use crate::description::{
 
 pub(super) fn tables() -> Vec<Special> {
     let mut all = last_tables();
+    all.extend(far_tables());
     all.extend(entry_tables());
     all.extend(name_lists());
     all.extend(resource_tables());
@@ -33,6 +34,19 @@ fn ending_with(part: Part) -> Description {
     description.order.retain(|(other, _)| *other != part);
     description.order.push((part, Put::After { gap: 0 }));
     description
+}
+
+/// The same with all of them past 65,535.
+fn far_tables() -> Vec<Special> {
+    let far = |gap| {
+        let name = format!("every table, {gap} bytes further");
+        Special::of(name, move || {
+            let mut description = full();
+            description.order[0].1 = Put::After { gap };
+            description
+        })
+    };
+    [65_472, 65_536, 100_001].map(far).into()
 }
 
 fn full() -> Description {

@@ -46,10 +46,12 @@ const ADDRESSES: [usize; 3] = [0, 1, usize::MAX];
 /// Strings of the lists as they stand there, then changed ones, then others.
 fn text_to_ask(names: &[stated::Name], request: u64, random: &mut Random) -> Text {
     let found = string_of(names, |name| !name.first, random);
+    let last = names.last().map_or(found, |name| name.text);
     let first = string_of(names, |name| name.first, random);
     let any = string_of(names, |_| true, random);
     match request {
-        0 | 1 => Text::of(found),
+        0 => Text::of(found),
+        1 => Text::of(last),
         2 => Text::of(first),
         3 => Text::Bytes(with_a_byte_changed(any, random)),
         4 => Text::of(&any[..random.below(any.len())]),

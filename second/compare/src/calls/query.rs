@@ -76,8 +76,10 @@ impl<Q: Query> Call for Function<Q> {
         Q::ANSWERS
     }
 
-    fn edges(&self) -> Tally {
-        judge::run(*self, &Q::edges_by_subject())
+    fn edges(&self) -> Box<dyn Iterator<Item = Tally>> {
+        let function = *self;
+        let subjects = Q::edges_by_subject().into_iter();
+        Box::new(subjects.map(move |edges| judge::run(function, edges)))
     }
 
     fn compare(

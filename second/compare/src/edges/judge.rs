@@ -11,19 +11,15 @@ use tally::Tally;
 /// Edges with their subject.
 pub type Edges<Q> = (&'static str, fn(&mut Judge<Q>));
 
-pub fn run<Q: Query>(function: Function<Q>, edges_by_subject: &[Edges<Q>]) -> Tally {
-    let mut whole = Tally::default();
-    for (subject, edges) in edges_by_subject {
-        let mut judge = Judge {
-            function,
-            tally: Tally::default(),
-        };
-        edges(&mut judge);
-        let group = format!("edges of {}, {subject}", Q::NAME);
-        println!("{}", judge.tally.line(&group));
-        whole.add(judge.tally);
-    }
-    whole
+pub fn run<Q: Query>(function: Function<Q>, (subject, edges): Edges<Q>) -> Tally {
+    let mut judge = Judge {
+        function,
+        tally: Tally::default(),
+    };
+    edges(&mut judge);
+    let group = format!("edges of {}, {subject}", Q::NAME);
+    println!("{}", judge.tally.line(&group));
+    judge.tally
 }
 
 /// Asks both programs and counts.

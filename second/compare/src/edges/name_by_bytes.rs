@@ -5,7 +5,7 @@ mod first_strings;
 mod lengths;
 mod text;
 
-use super::header::{self, HeaderEdges, Table};
+use super::header::{HeaderEdges, Table};
 use super::judge::{self, Edges};
 use super::minimal::Minimal;
 use super::names::{self, NameEdges};
@@ -14,16 +14,12 @@ use crate::calls::{NameByBytes, Text};
 type Judge = judge::Judge<NameByBytes>;
 
 pub fn by_subject() -> Vec<Edges<NameByBytes>> {
-    let own: [Edges<NameByBytes>; 4] = [
+    names::by_subject(&[
         ("exact bytes (17)", text::edges),
         ("lengths of what is asked for (17)", lengths::edges),
         ("first strings (17)", first_strings::edges),
         ("first match", first_match::edges),
-    ];
-    let mut edges = header::by_subject();
-    edges.extend(names::by_subject());
-    edges.extend(own);
-    edges
+    ])
 }
 
 impl NameEdges for NameByBytes {

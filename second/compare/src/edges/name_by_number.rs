@@ -2,7 +2,7 @@
 
 mod number;
 
-use super::header::{self, HeaderEdges, Table};
+use super::header::{HeaderEdges, Table};
 use super::judge::{self, Edges};
 use super::minimal::Minimal;
 use super::names::{self, NameEdges};
@@ -12,10 +12,7 @@ use crate::calls::NameByNumber;
 type Judge = judge::Judge<NameByNumber>;
 
 pub fn by_subject() -> Vec<Edges<NameByNumber>> {
-    let mut edges = header::by_subject();
-    edges.extend(names::by_subject());
-    edges.push(("number (8)", number::edges));
-    edges
+    names::by_subject(&[("number (8)", number::edges)])
 }
 
 impl NameEdges for NameByNumber {

@@ -9,7 +9,7 @@ mod resident;
 mod untested;
 mod values;
 
-use super::header::{HeaderEdges, Table};
+use super::header::{self, HeaderEdges, Table};
 use super::judge::{Edges, Judge};
 use super::minimal::Minimal;
 use crate::calls::Query;
@@ -25,17 +25,23 @@ pub trait NameEdges: HeaderEdges + Query<Values = Name> {
     const NOT_THERE: u32;
 }
 
-pub fn by_subject<Q: NameEdges>() -> Vec<Edges<Q>> {
-    vec![
+/// The header's edges, those of the lists, the query's own, and those that take
+/// longest.
+pub fn by_subject<Q: NameEdges>(own: &[Edges<Q>]) -> Vec<Edges<Q>> {
+    let lists: [Edges<Q>; 7] = [
         ("end of the resident list (16)", resident::edges),
         ("end of the nonresident list (16)", nonresident::edges),
         ("empty lists", empty::edges),
         ("order of refusals", order::edges),
         ("values of a name", values::edges),
         ("places of the lists", places::edges),
-        ("long lists", large::edges),
         ("what isn't looked at", untested::edges),
-    ]
+    ];
+    let mut edges = header::by_subject();
+    edges.extend(lists);
+    edges.extend(own);
+    edges.push(("long lists", large::edges));
+    edges
 }
 
 impl<Q: NameEdges> Judge<Q> {

@@ -2,7 +2,7 @@
 
 mod number;
 
-use super::header::{self, HeaderEdges, Table};
+use super::header::{HeaderEdges, Table};
 use super::judge::{self, Edges};
 use super::minimal::Minimal;
 use super::resources::{self, ResourceEdges};
@@ -12,10 +12,7 @@ use crate::calls::ResourceByNumber;
 type Judge = judge::Judge<ResourceByNumber>;
 
 pub fn by_subject() -> Vec<Edges<ResourceByNumber>> {
-    let mut edges = header::by_subject();
-    edges.extend(resources::by_subject());
-    edges.push(("number (8)", number::edges));
-    edges
+    resources::by_subject(&[("number (8)", number::edges)])
 }
 
 impl ResourceEdges for ResourceByNumber {

@@ -3,7 +3,7 @@
 mod first_match;
 mod words;
 
-use super::header::{self, HeaderEdges, Table};
+use super::header::{HeaderEdges, Table};
 use super::judge::{self, Edges};
 use super::minimal::Minimal;
 use super::resources::{self, ResourceEdges};
@@ -12,11 +12,10 @@ use crate::calls::{ResourceByWords, Words};
 type Judge = judge::Judge<ResourceByWords>;
 
 pub fn by_subject() -> Vec<Edges<ResourceByWords>> {
-    let mut edges = header::by_subject();
-    edges.extend(resources::by_subject());
-    edges.push(("words (19)", words::edges));
-    edges.push(("first match", first_match::edges));
-    edges
+    resources::by_subject(&[
+        ("words (19)", words::edges),
+        ("first match", first_match::edges),
+    ])
 }
 
 impl ResourceEdges for ResourceByWords {

@@ -10,7 +10,7 @@ mod shift;
 mod untested;
 mod values;
 
-use super::header::{HeaderEdges, Table};
+use super::header::{self, HeaderEdges, Table};
 use super::judge::{Edges, Judge};
 use super::minimal::Minimal;
 use crate::calls::Query;
@@ -25,8 +25,10 @@ pub trait ResourceEdges: HeaderEdges + Query<Values = reference::Resource> {
     const NOT_THERE: u32;
 }
 
-pub fn by_subject<Q: ResourceEdges>() -> Vec<Edges<Q>> {
-    vec![
+/// The header's edges, those of the table, the query's own, and those that take
+/// longest.
+pub fn by_subject<Q: ResourceEdges>(own: &[Edges<Q>]) -> Vec<Edges<Q>> {
+    let table: [Edges<Q>; 8] = [
         ("equal places at 24h and 26h", none::edges),
         ("shift of the table (18)", shift::edges),
         ("end of the table (18)", ends::edges),
@@ -34,9 +36,13 @@ pub fn by_subject<Q: ResourceEdges>() -> Vec<Edges<Q>> {
         ("values of a resource", values::edges),
         ("order of refusals", order::edges),
         ("places of the table", places::edges),
-        ("long tables", large::edges),
         ("what isn't looked at", untested::edges),
-    ]
+    ];
+    let mut edges = header::by_subject();
+    edges.extend(table);
+    edges.extend(own);
+    edges.push(("long tables", large::edges));
+    edges
 }
 
 impl<Q: ResourceEdges> Judge<Q> {

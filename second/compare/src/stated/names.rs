@@ -1,6 +1,6 @@
 //! The strings of both name lists.
 
-use super::{dword, header_at, ne_word, table};
+use super::{nonresident_place, nonresident_size, table};
 
 /// A string that is there with its length byte and text.
 #[derive(Clone, Copy)]
@@ -21,9 +21,8 @@ pub fn names(image: &[u8]) -> Vec<Name<'_>> {
 
 /// The nonresident names, or the part of them that lies in the image.
 fn nonresident(image: &[u8]) -> Option<&[u8]> {
-    let place = dword(image, header_at(image)?.checked_add(0x2C)?)?;
-    let behind = image.get(place..)?;
-    let size = ne_word(image, 0x20)? as usize;
+    let behind = image.get(nonresident_place(image)?..)?;
+    let size = nonresident_size(image)?;
     Some(&behind[..size.min(behind.len())])
 }
 

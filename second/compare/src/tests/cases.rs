@@ -41,7 +41,8 @@ fn every_wrong_one_is_found() {
         group::compare(kind, &calls, &options(), &mut Seen::default());
         hidden.retain(|(_, call)| !call.differed());
     }
-    let names: Vec<&str> = hidden.iter().map(|(name, _)| *name).collect();
+    let name = |(name, call): &(&str, Noticed)| format!("{}, {name}", call.name());
+    let names: Vec<String> = hidden.iter().map(name).collect();
     assert!(names.is_empty(), "{names:?}");
 }
 

@@ -35,7 +35,7 @@ impl Call for Noticed {
         self.call.answers()
     }
 
-    fn edges(&self) -> Tally {
+    fn edges(&self) -> Box<dyn Iterator<Item = Tally>> {
         self.call.edges()
     }
 

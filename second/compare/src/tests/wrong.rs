@@ -1,33 +1,55 @@
 //! Queries that are wrong in one respect, to be found out.
 
-mod fault;
+pub mod module;
+pub mod names;
 pub mod ordinal;
+pub mod resources;
 pub mod segment;
-mod walk;
 
 use crate::calls::Call;
 
 /// A call with a name for what is wrong in it.
 pub type Named = (&'static str, Box<dyn Call>);
 
-/// The right ones.
+/// The right ones. Those that are walked or looked up are right but for their
+/// fault.
 pub fn right() -> Vec<Named> {
     vec![
-        ("segment", Box::new(segment::call(segment::right))),
-        ("ordinal", Box::new(ordinal::call(ordinal::right))),
-        // The others of its kind are right but for their fault.
-        (
-            "ordinal, by a walk",
-            Box::new(ordinal::call(ordinal::walked)),
+        named("segment", segment::call(segment::right)),
+        named("ordinal", ordinal::call(ordinal::right)),
+        named("ordinal, walked", ordinal::call(ordinal::walked)),
+        named("name", names::by_number(names::right_number)),
+        named("name, looked up", names::by_number(names::looked_up_number)),
+        named("bytes", names::by_bytes(names::right_bytes)),
+        named("bytes, looked up", names::by_bytes(names::looked_up_bytes)),
+        named("module", module::call(module::right)),
+        named("module, looked up", module::call(module::looked_up)),
+        named("resource", resources::by_number(resources::right_number)),
+        named(
+            "resource, looked up",
+            resources::by_number(resources::looked_up_number),
+        ),
+        named("words", resources::by_words(resources::right_words)),
+        named(
+            "words, looked up",
+            resources::by_words(resources::looked_up_words),
         ),
     ]
 }
 
 /// Wrong at an edge that is written out by hand.
 pub fn at_an_edge() -> Vec<Named> {
-    let segments = segment::WRONG.map(|(name, query)| named(name, segment::call(query)));
-    let ordinals = ordinal::WRONG.map(|(name, query)| named(name, ordinal::call(query)));
-    segments.into_iter().chain(ordinals).collect()
+    let mut all = Vec::new();
+    all.extend(segment::WRONG.map(|(name, query)| named(name, segment::call(query))));
+    all.extend(ordinal::WRONG.map(|(name, query)| named(name, ordinal::call(query))));
+    all.extend(names::WRONG_BY_NUMBER.map(|(name, query)| named(name, names::by_number(query))));
+    all.extend(names::WRONG_BY_BYTES.map(|(name, query)| named(name, names::by_bytes(query))));
+    all.extend(module::WRONG.map(|(name, query)| named(name, module::call(query))));
+    let by_number = resources::WRONG_BY_NUMBER;
+    all.extend(by_number.map(|(name, query)| named(name, resources::by_number(query))));
+    let by_words = resources::WRONG_BY_WORDS;
+    all.extend(by_words.map(|(name, query)| named(name, resources::by_words(query))));
+    all
 }
 
 /// Wrong in a rare case only, which is for the generated cases to find.
@@ -35,9 +57,22 @@ pub fn rarely() -> Vec<Named> {
     vec![
         named("rare start", segment::call(segment::rare_start)),
         named("rare offset", ordinal::call(ordinal::rare_offset)),
+        named("rare ordinal", names::by_number(names::rare_ordinal)),
+        named("rare name", names::by_bytes(names::rare_miss)),
+        named("rare length", module::call(module::rare_length)),
+        named("rare flags", resources::by_number(resources::rare_flags)),
+        named("rare words", resources::by_words(resources::rare_miss)),
     ]
 }
 
 fn named(name: &'static str, call: impl Call + 'static) -> Named {
     (name, Box::new(call))
+}
+
+/// Refusals 1 to 7, which are another's subject; 8 says that they are passed.
+fn sound_header(image: &[u8]) -> Result<(), u32> {
+    match reference::segment(image, 0) {
+        Err(refusal @ 1..=7) => Err(refusal),
+        _ => Ok(()),
+    }
 }

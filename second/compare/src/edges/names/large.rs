@@ -47,13 +47,18 @@ fn into_the_other_list<Q: NameEdges>(judge: &mut Judge<Q>) {
     judge.lacks("past the most of both", &image, 81_919, b"zzz");
 }
 
-/// 4,194,270 strings and one more fill 16,777,216 bytes.
+/// The list fills 16,777,216 bytes: 65,027 strings of 255 bytes and one more,
+/// or 4,194,270 of one byte and one more.
 fn whole_image<Q: NameEdges>(judge: &mut Judge<Q>) {
-    let names = [strings(4_194_270), string(b"LAST", 0x4321), vec![0]].concat();
-    let image = resident(&names);
-    let fields = [4_194_271, 16_777_209, 4, 0x4321];
-    judge.holds("the last of 16 MB", &image, b"LAST", fields);
-    judge.lacks("past the last of 16 MB", &image, 4_194_272, b"MORE");
+    let last = [b'L'; 118];
+    let long = string(&[b'x'; 255], 0).repeat(65_027);
+    let image = resident(&[long, string(&last, 0x4321), vec![0]].concat());
+    let fields = [65_028, 16_777_095, 118, 0x4321];
+    judge.holds("the last of 16 MB", &image, &last, fields);
+    judge.lacks("past the last of 16 MB", &image, 65_029, b"MORE");
     let unended = image.put(16_777_215, &[1]);
     judge.refuses("16 MB, not ended", &unended, Q::asked(), 16);
+    let short = [strings(4_194_270), string(b"LAST", 0x4321), vec![0]].concat();
+    let fields = [4_194_271, 16_777_209, 4, 0x4321];
+    judge.holds("the last of 4,194,271", &resident(&short), b"LAST", fields);
 }

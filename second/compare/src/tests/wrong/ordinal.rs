@@ -1,9 +1,12 @@
 //! Ordinal queries that are wrong in one respect.
 
-use super::fault::Fault;
-use super::walk::walk;
+mod fault;
+mod walk;
+
 use crate::calls::{Function, OrdinalQuery};
 use crate::results::OrdinalResult;
+use fault::Fault;
+use walk::walk;
 
 /// The right one, for the others to spoil.
 pub fn right(image: &[u8], number: &u32) -> OrdinalResult {

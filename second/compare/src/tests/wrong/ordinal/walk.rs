@@ -2,14 +2,12 @@
 
 use super::fault::{Fault, Stage};
 use crate::stated;
+use crate::tests::wrong::sound_header;
 use reference::Entry;
 
 /// The ordinal's entry.
 pub fn walk(image: &[u8], number: u32, fault: Fault) -> Result<Entry, u32> {
-    // Refusals 1 to 7 are another's; 8 says that they are passed.
-    if let Err(refusal @ 1..=7) = reference::segment(image, 0) {
-        return Err(refusal);
-    }
+    sound_header(image)?;
     let table = table(image, fault);
     let mut walk = Walk {
         segments: stated::segment_count(image),
