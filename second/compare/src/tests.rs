@@ -2,10 +2,10 @@
 
 mod cases;
 mod edges;
-mod library;
 mod noticed;
-mod numbers;
 mod options;
 mod reports;
+mod requests;
+mod results;
 mod seen;
 mod wrong;

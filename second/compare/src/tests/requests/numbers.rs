@@ -1,26 +1,10 @@
 //! The numbers that are asked for.
 
-use crate::calls::{OrdinalQuery, Query, SegmentQuery, REQUESTS};
-use crate::inputs::Input;
-use builder::special::special;
-use builder::Random;
+use super::{asked, input, without_header};
+use crate::calls::{
+    ModuleQuery, NameByNumber, OrdinalQuery, ResourceByNumber, SegmentQuery, REQUESTS,
+};
 use std::collections::BTreeSet;
-
-fn input(name: &str) -> Input {
-    Input {
-        bytes: special(name).expect("a special image").make().image.bytes,
-        origin: name.to_string(),
-        segment: None,
-    }
-}
-
-/// All numbers that a request asks for.
-fn asked<Q: Query<Request = u32>>(input: &Input, request: u64) -> BTreeSet<u32> {
-    let mut random = Random::new(request);
-    (0..2_000)
-        .map(|_| Q::worth_asking(input, request, &mut random))
-        .collect()
-}
 
 /// P10 has ordinal 1, the null ones 2 and 3, and the movable 4.
 #[test]
@@ -66,15 +50,52 @@ fn segments_of_p10() {
     assert_eq!(asked::<SegmentQuery>(&image, 4), BTreeSet::from([2]));
 }
 
+/// Three resident names, of which the first is the module's, and three others.
+#[test]
+fn names_of_two_lists() {
+    let asked =
+        |request| asked::<NameByNumber>(&input("Resources ends the image, less 0"), request);
+    for (request, expected) in [(0, 0), (1, 1), (2, 6), (3, 7), (4, 4)] {
+        assert_eq!(asked(request), BTreeSet::from([expected]));
+    }
+    assert_eq!(asked(5), (1..=6).collect());
+}
+
+#[test]
+fn modules_and_resources() {
+    let image = input("Resources ends the image, less 0");
+    for (request, expected) in [(0, 0), (1, 1), (2, 2), (3, 3)] {
+        assert_eq!(
+            asked::<ModuleQuery>(&image, request),
+            BTreeSet::from([expected])
+        );
+        assert_eq!(
+            asked::<ResourceByNumber>(&image, request),
+            BTreeSet::from([expected])
+        );
+    }
+    for request in [4, 5] {
+        assert_eq!(
+            asked::<ModuleQuery>(&image, request),
+            BTreeSet::from([1, 2])
+        );
+        assert_eq!(
+            asked::<ResourceByNumber>(&image, request),
+            BTreeSet::from([1, 2])
+        );
+    }
+}
+
 /// Nothing is stated by bytes that have no header.
 #[test]
 fn numbers_of_random_bytes() {
     for length in [0, 1, 63, 64, 100] {
-        let image = Input {
-            bytes: vec![0xFF; length],
-            ..input("P10")
-        };
-        assert_eq!(asked::<SegmentQuery>(&image, 2), BTreeSet::from([0]));
-        assert_eq!(asked::<OrdinalQuery>(&image, 2), BTreeSet::from([0]));
+        let image = without_header(length);
+        let none = BTreeSet::from([0]);
+        assert_eq!(asked::<SegmentQuery>(&image, 2), none);
+        assert_eq!(asked::<OrdinalQuery>(&image, 2), none);
+        assert_eq!(asked::<NameByNumber>(&image, 2), none);
+        assert_eq!(asked::<ModuleQuery>(&image, 2), none);
+        assert_eq!(asked::<ResourceByNumber>(&image, 2), none);
     }
 }

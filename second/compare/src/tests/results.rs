@@ -1,0 +1,168 @@
+//! The results of the library as answers.
+
+use super::wrong::{module, names, ordinal, resources, segment};
+use crate::answer::Answer;
+use crate::results::{
+    ModuleResult, NameResult, OrdinalResult, ResourceResult, SegmentResult, Values,
+};
+use reference::{Entry, Module, Name, Resource, Segment};
+use std::fmt::Debug;
+use std::mem::offset_of;
+
+/// A result with each of its fields in the place of its number, from 0 on.
+fn stands_for<R, T: Values>(result: R, values: T, fields: T::Fields, offsets: &[usize])
+where
+    Answer<T>: From<R> + Debug,
+{
+    let expected: Vec<usize> = (0..offsets.len()).map(|field| 4 * field).collect();
+    assert_eq!(offsets, expected);
+    assert_eq!(size_of::<R>(), 4 * offsets.len());
+    assert_eq!(values, T::of(fields));
+    assert_eq!(Answer::from(result), Answer::Accepted(values));
+}
+
+/// The offsets of a result's fields.
+macro_rules! offsets {
+    ($result:ident: $($field:ident),+) => {
+        &[$(offset_of!($result, $field)),+]
+    };
+}
+
+#[test]
+fn a_segments_fields_keep_their_names() {
+    let result = SegmentResult {
+        refusal: 0,
+        start: 1,
+        stored: 2,
+        flags: 3,
+        allocation: 4,
+        records: 5,
+    };
+    let segment = Segment {
+        start: 1,
+        stored: 2,
+        flags: 3,
+        allocation: 4,
+        records: 5,
+    };
+    let offsets = offsets!(SegmentResult: refusal, start, stored, flags, allocation, records);
+    stands_for(result, segment, [1, 2, 3, 4, 5], offsets);
+}
+
+#[test]
+fn an_ordinals_fields_keep_their_names() {
+    let result = OrdinalResult {
+        refusal: 0,
+        segment: 1,
+        offset: 2,
+        flag: 3,
+    };
+    let entry = Entry {
+        segment: 1,
+        offset: 2,
+        flag: 3,
+    };
+    let offsets = offsets!(OrdinalResult: refusal, segment, offset, flag);
+    stands_for(result, entry, [1, 2, 3], offsets);
+}
+
+#[test]
+fn a_names_fields_keep_their_names() {
+    let result = NameResult {
+        refusal: 0,
+        number: 1,
+        text_at: 2,
+        text_len: 3,
+        ordinal: 4,
+    };
+    let name = Name {
+        number: 1,
+        text_at: 2,
+        text_len: 3,
+        ordinal: 4,
+    };
+    let offsets = offsets!(NameResult: refusal, number, text_at, text_len, ordinal);
+    stands_for(result, name, [1, 2, 3, 4], offsets);
+}
+
+#[test]
+fn a_modules_fields_keep_their_names() {
+    let result = ModuleResult {
+        refusal: 0,
+        text_at: 1,
+        text_len: 2,
+    };
+    let module = Module {
+        text_at: 1,
+        text_len: 2,
+    };
+    let offsets = offsets!(ModuleResult: refusal, text_at, text_len);
+    stands_for(result, module, [1, 2], offsets);
+}
+
+#[test]
+fn a_resources_fields_keep_their_names() {
+    let result = ResourceResult {
+        refusal: 0,
+        type_: 1,
+        id: 2,
+        flags: 3,
+        data_at: 4,
+        data_len: 5,
+    };
+    let resource = Resource {
+        type_: 1,
+        id: 2,
+        flags: 3,
+        data_at: 4,
+        data_len: 5,
+    };
+    let offsets = offsets!(ResourceResult: refusal, type_, id, flags, data_at, data_len);
+    stands_for(result, resource, [1, 2, 3, 4, 5], offsets);
+}
+
+/// Refusal 9 as it should be is clean; with any one value set it isn't.
+fn clean_only_with_zeros<R: Copy, T>(refused: R, set: &[fn(&mut R)])
+where
+    Answer<T>: From<R>,
+{
+    assert!(matches!(Answer::from(refused), Answer::Refused(9)));
+    for set_one in set {
+        let mut result = refused;
+        set_one(&mut result);
+        let answer = Answer::from(result);
+        assert!(matches!(answer, Answer::Unclean { refusal: 9, .. }));
+    }
+}
+
+/// Each of these fields set to 1.
+macro_rules! each_set {
+    ($($field:ident),+) => {
+        &[$(|result| result.$field = 1),+]
+    };
+}
+
+#[test]
+fn a_refusal_has_zeros_beside_it() {
+    clean_only_with_zeros::<_, Segment>(
+        segment::refused(9),
+        each_set!(start, stored, flags, allocation, records),
+    );
+    clean_only_with_zeros::<_, Entry>(ordinal::refused(9), each_set!(segment, offset, flag));
+    clean_only_with_zeros::<_, Name>(
+        names::refused(9),
+        each_set!(number, text_at, text_len, ordinal),
+    );
+    clean_only_with_zeros::<_, Module>(module::refused(9), each_set!(text_at, text_len));
+    clean_only_with_zeros::<_, Resource>(
+        resources::refused(9),
+        each_set!(type_, id, flags, data_at, data_len),
+    );
+}
+
+#[test]
+fn an_unclean_refusal_equals_no_other_answer() {
+    let mut result = segment::refused(9);
+    result.flags = 1;
+    assert_ne!(Answer::from(result), Answer::<Segment>::Refused(9));
+}
