@@ -11,10 +11,11 @@ pub(super) fn imports(description: &mut Description, shape: &Shape, random: &mut
     } else {
         imported_names(random)
     };
-    let count = match random.below(100) {
-        0..=19 => 0,
-        20..=97 => random.between(1, 4),
-        _ => random.between(5, 120),
+    let count = match random.below(1_000) {
+        0..=199 => 0,
+        200..=979 => random.between(1, 4),
+        980..=998 => random.between(5, 120),
+        _ => random.between(300, 2_000),
     };
     description.modules = (0..count)
         .map(|_| module(&description.imported, random))

@@ -28,8 +28,9 @@ pub(super) fn name_lists(description: &mut Description, shape: &Shape, random: &
 
 /// Names that often equal or nearly equal those in `known`.
 fn name_list(random: &mut Random, known: &mut Vec<Vec<u8>>) -> NameList {
-    let count = match random.below(30) {
-        0 => random.between(7, 30),
+    let count = match random.below(900) {
+        0 => random.between(300, 2_000),
+        1..=30 => random.between(7, 30),
         _ => random.between(1, 6),
     };
     let mut list = NameList {

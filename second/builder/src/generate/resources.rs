@@ -30,8 +30,9 @@ pub(super) fn resources(random: &mut Random, shape: &Shape) -> Option<Resources>
 }
 
 fn block(random: &mut Random) -> ResourceBlock {
-    let count = match random.below(50) {
-        0 => random.between(5, 40),
+    let count = match random.below(2_000) {
+        0 => random.between(300, 1_500),
+        1..=40 => random.between(5, 40),
         _ => random.below(5),
     };
     ResourceBlock {

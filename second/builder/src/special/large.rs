@@ -1,6 +1,6 @@
 //! The greatest counts: sites, records, names, resources, modules and segments.
 
-use super::{internal, one_segment, Special};
+use super::{case, internal, one_segment, shorter, Special};
 use crate::description::{
     Description, Name, NameList, Part, Put, Resource, ResourceBlock, Resources, Segment, Stored,
     Target, ADDITIVE,
@@ -27,8 +27,20 @@ pub(super) fn large() -> Vec<Special> {
         }),
         Special::of("65,535 OS fixups on 1 byte", os_fixups),
         Special::of("65,537 resident names", || resident(65_537)),
+        Special::new("65,537 resident names, less 1", || {
+            shorter(case(resident(65_537)), 1)
+        }),
         Special::of("16,383 nonresident names", nonresident),
+        Special::of("16,383 nonresident names, not ended", || {
+            let mut description = nonresident();
+            description.nonresident.size = Some(65_532);
+            description
+        }),
+        Special::of("65,530 resident and 10 nonresident names", both_lists),
         Special::of("65,540 resources", || resources(65_535, 5)),
+        Special::new("65,540 resources, less 1", || {
+            shorter(case(resources(65_535, 5)), 1)
+        }),
         Special::of("3,000 resources in 1,000 types", many_types),
         Special::of("65,535 modules", modules),
         Special::of("65,535 segments", segments),
@@ -107,6 +119,17 @@ fn nonresident() -> Description {
     list.trailing = vec![0xEE; 2];
     description.nonresident = list;
     ending_with(description, Part::NonresidentNames)
+}
+
+/// The numbers of the nonresident names pass 65,535.
+fn both_lists() -> Description {
+    let mut description = resident(65_530);
+    let mut list = names(10);
+    for name in &mut list.names {
+        name.text.push(b'!');
+    }
+    description.nonresident = list;
+    description
 }
 
 fn resource(n: usize) -> Resource {

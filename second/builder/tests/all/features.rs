@@ -117,6 +117,7 @@ fn names(count: &mut Count, description: &Description) {
         !nonresident.trailing.is_empty(),
     );
     let all = || resident.names.iter().chain(&nonresident.names);
+    count.add("thousand names", all().count() > 1_000);
     count.add(
         "name of 255 bytes",
         all().any(|name| name.text.len() == 255),
@@ -138,6 +139,7 @@ fn names(count: &mut Count, description: &Description) {
 fn imports(count: &mut Count, case: &Case) {
     let modules = &case.description.modules;
     count.add("no module", modules.is_empty());
+    count.add("thousand modules", modules.len() > 1_000);
     for number in 1..=modules.len() {
         let found = check::module(&case.image.bytes, number);
         count.add("sound module", found.is_ok());
@@ -159,6 +161,7 @@ fn resources(count: &mut Count, case: &Case) {
     }
     let found = check::resources(&case.image.bytes).ok().unwrap();
     let length = case.image.bytes.len();
+    count.add("thousand resources", found.len() > 1_000);
     for one in &found {
         count.add("type without high bit", one.kind & 0x8000 == 0);
         count.add("id without high bit", one.id & 0x8000 == 0);

@@ -1,25 +1,27 @@
-//! Random bytes, with more and more of a header planted in them.
+//! Random bytes, with more and more of a module planted in them.
+
+mod tables;
 
 use super::Input;
 use builder::Random;
+use tables::{entry_table, module_references, name_list, resource_table};
 
 /// The longest image that is admitted.
 const LONGEST_IMAGE: usize = 16_777_216;
-/// How many things can be planted.
-const PLANTS: usize = 7;
-/// Bytes that mean something in an entry table.
-const ENTRY_BYTES: [u8; 8] = [0, 1, 2, 3, 254, 255, 0xCD, 0x3F];
 
 pub fn input(random: &mut Random) -> Input {
     let length = length(random);
     let mut bytes = vec![0; length];
     // Filling a very long image would take most of a run's time.
     random.fill(&mut bytes[..length.min(100_000)]);
-    let planted = random.below(PLANTS + 1);
-    plant(&mut bytes, planted, random);
+    let planted = random.below(PLANTS.len() + 1);
+    let mut ground = Ground::new(bytes, random);
+    for plant in &PLANTS[..planted] {
+        plant(&mut ground, random);
+    }
     Input {
         origin: format!("random, {length} bytes, {planted} things planted"),
-        bytes,
+        bytes: ground.bytes,
         segment: None,
     }
 }
@@ -34,52 +36,95 @@ fn length(random: &mut Random) -> usize {
     }
 }
 
-/// Plants the first few: "MZ", the NE header's place, "NE", an alignment shift,
-/// no tables but that of the segments, a short one of those, and a short entry
-/// table.
-fn plant(bytes: &mut [u8], planted: usize, random: &mut Random) {
-    let room = bytes.len().saturating_sub(128);
-    // Often near the start, so that there is room for tables behind it.
-    let farthest = random.pick(&[9, 1_000]);
-    let place = 64 + random.below(room.min(farthest) + 1);
-    let shift = random.below(17) as u8;
-    let count = random.below(4) as u8;
-    let table = random.below(bytes.len().clamp(1, 256)) as u8;
-    let entries = entry_table(random);
-    let size = entries.len() as u16;
-    let entries_at = random.below(room.clamp(1, 256));
-    let steps: [&[(usize, &[u8])]; PLANTS] = [
-        &[(0, b"MZ")],
-        &[(0x3C, &(place as u32).to_le_bytes())],
-        &[(place, b"NE")],
-        &[(place + 0x32, &[shift, 0])],
-        &[(place + 0x06, &[0, 0]), (place + 0x1E, &[0, 0, 0, 0])],
-        &[(place + 0x1C, &[count, 0]), (place + 0x22, &[table, 0])],
-        &[
-            (place + 0x04, &[entries_at as u8, 0]),
-            (place + 0x06, &size.to_le_bytes()),
-            (place + entries_at, &entries),
-        ],
-    ];
-    for (at, held) in steps.iter().take(planted).copied().flatten() {
-        put(bytes, *at, held);
+/// An image that things are planted in.
+struct Ground {
+    bytes: Vec<u8>,
+    /// The NE header's place.
+    header: usize,
+}
+
+/// What can be planted, the first things first.
+const PLANTS: [fn(&mut Ground, &mut Random); 10] = [
+    |ground, _| ground.put(0, b"MZ"),
+    |ground, _| ground.put(0x3C, &(ground.header as u32).to_le_bytes()),
+    |ground, _| ground.put(ground.header, b"NE"),
+    |ground, random| ground.put_word(0x32, random.below(17)),
+    // No tables but that of the segments.
+    |ground, _| {
+        ground.put_word(0x06, 0);
+        ground.put_word(0x1E, 0);
+        ground.put_word(0x20, 0);
+    },
+    |ground, random| {
+        let table = random.below(ground.bytes.len().clamp(1, 256));
+        ground.put_word(0x1C, random.below(4));
+        ground.put_word(0x22, table);
+    },
+    |ground, random| {
+        let table = entry_table(random);
+        let place = random.below(ground.room().clamp(1, 256));
+        ground.put_table(0x04, place, &table);
+        ground.put_word(0x06, table.len());
+    },
+    |ground, random| {
+        let place = ground.behind_the_header(random);
+        ground.put_table(0x26, place, &name_list(random));
+        let list = name_list(random);
+        let place = ground.header + ground.behind_the_header(random);
+        ground.put(ground.header + 0x2C, &(place as u32).to_le_bytes());
+        ground.put_word(0x20, list.len());
+        ground.put(place, &list);
+    },
+    |ground, random| {
+        let references = module_references(random);
+        let place = ground.behind_the_header(random);
+        ground.put_table(0x28, place, &references);
+        ground.put_word(0x1E, references.len() / 2);
+        // A list of names holds strings as the imported names do.
+        let place = ground.behind_the_header(random);
+        ground.put_table(0x2A, place, &name_list(random));
+    },
+    |ground, random| {
+        let place = ground.behind_the_header(random);
+        ground.put_table(0x24, place, &resource_table(random));
+    },
+];
+
+impl Ground {
+    /// The NE header is often near the start, so that there is room for tables
+    /// behind it.
+    fn new(bytes: Vec<u8>, random: &mut Random) -> Self {
+        let mut ground = Ground { bytes, header: 0 };
+        let farthest = random.pick(&[9, 1_000]);
+        ground.header = 64 + random.below(ground.room().min(farthest) + 1);
+        ground
     }
-}
 
-/// A few bytes, now and then behind about as many null ordinals as there may be.
-fn entry_table(random: &mut Random) -> Vec<u8> {
-    let (nulls, more) = match random.below(5) {
-        0 => (random.between(256, 257), random.below(6)),
-        _ => (0, random.below(20)),
-    };
-    let mut table = [255, 0].repeat(nulls);
-    table.extend((0..more).map(|_| random.pick(&ENTRY_BYTES)));
-    table
-}
+    /// The bytes that two headers leave.
+    fn room(&self) -> usize {
+        self.bytes.len().saturating_sub(128)
+    }
 
-/// What doesn't fit is left out.
-fn put(bytes: &mut [u8], at: usize, held: &[u8]) {
-    if let Some(there) = bytes.get_mut(at..at + held.len()) {
-        there.copy_from_slice(held);
+    /// A place that counts from the NE header.
+    fn behind_the_header(&self, random: &mut Random) -> usize {
+        64 + random.below(self.room().clamp(1, 256))
+    }
+
+    /// What doesn't fit is left out.
+    fn put(&mut self, at: usize, held: &[u8]) {
+        if let Some(there) = self.bytes.get_mut(at..at + held.len()) {
+            there.copy_from_slice(held);
+        }
+    }
+
+    /// Puts a word of the NE header.
+    fn put_word(&mut self, offset: usize, word: usize) {
+        self.put(self.header + offset, &(word as u16).to_le_bytes());
+    }
+
+    /// Puts a table at a place from the NE header on, and its place.
+    fn put_table(&mut self, offset: usize, place: usize, table: &[u8]) {
+        self.put_word(offset, place);
+        self.put(self.header + place, table);
     }
 }
