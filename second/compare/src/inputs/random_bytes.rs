@@ -14,11 +14,8 @@ pub fn input(random: &mut Random) -> Input {
     let mut bytes = vec![0; length];
     // Filling a very long image would take most of a run's time.
     random.fill(&mut bytes[..length.min(100_000)]);
-    let planted = random.below(PLANTS.len() + 1);
     let mut ground = Ground::new(bytes, random);
-    for plant in &PLANTS[..planted] {
-        plant(&mut ground, random);
-    }
+    let planted = ground.plant(random);
     Input {
         origin: format!("random, {length} bytes, {planted} things planted"),
         bytes: ground.bytes,
@@ -43,52 +40,67 @@ struct Ground {
     header: usize,
 }
 
-/// What can be planted, the first things first.
-const PLANTS: [fn(&mut Ground, &mut Random); 10] = [
+type Plant = fn(&mut Ground, &mut Random);
+
+/// The headers, of which the first few things are planted.
+const HEADERS: [Plant; 6] = [
     |ground, _| ground.put(0, b"MZ"),
     |ground, _| ground.put(0x3C, &(ground.header as u32).to_le_bytes()),
     |ground, _| ground.put(ground.header, b"NE"),
     |ground, random| ground.put_word(0x32, random.below(17)),
-    // No tables but that of the segments.
-    |ground, _| {
-        ground.put_word(0x06, 0);
-        ground.put_word(0x1E, 0);
-        ground.put_word(0x20, 0);
-    },
-    |ground, random| {
-        let table = random.below(ground.bytes.len().clamp(1, 256));
-        ground.put_word(0x1C, random.below(4));
-        ground.put_word(0x22, table);
-    },
-    |ground, random| {
-        let table = entry_table(random);
-        let place = random.below(ground.room().clamp(1, 256));
-        ground.put_table(0x04, place, &table);
-        ground.put_word(0x06, table.len());
-    },
-    |ground, random| {
-        let place = ground.behind_the_header(random);
-        ground.put_table(0x26, place, &name_list(random));
-        let list = name_list(random);
-        let place = ground.header + ground.behind_the_header(random);
-        ground.put(ground.header + 0x2C, &(place as u32).to_le_bytes());
-        ground.put_word(0x20, list.len());
-        ground.put(place, &list);
-    },
-    |ground, random| {
-        let references = module_references(random);
-        let place = ground.behind_the_header(random);
-        ground.put_table(0x28, place, &references);
-        ground.put_word(0x1E, references.len() / 2);
-        // A list of names holds strings as the imported names do.
-        let place = ground.behind_the_header(random);
-        ground.put_table(0x2A, place, &name_list(random));
-    },
-    |ground, random| {
-        let place = ground.behind_the_header(random);
-        ground.put_table(0x24, place, &resource_table(random));
-    },
+    no_tables,
+    segment_table,
 ];
+
+/// The tables, any of which may be planted behind whole headers. The last one
+/// is the longest, and so the one that the others would spoil most often.
+const TABLES: [Plant; 4] = [name_lists, modules, resources, entries];
+
+/// None that has a size.
+fn no_tables(ground: &mut Ground, _: &mut Random) {
+    ground.put_word(0x06, 0);
+    ground.put_word(0x1E, 0);
+    ground.put_word(0x20, 0);
+}
+
+/// Whatever stands at its place.
+fn segment_table(ground: &mut Ground, random: &mut Random) {
+    let place = random.below(ground.bytes.len().clamp(1, 256));
+    ground.put_word(0x1C, random.below(4));
+    ground.put_word(0x22, place);
+}
+
+fn name_lists(ground: &mut Ground, random: &mut Random) {
+    let place = ground.behind_the_header(random);
+    ground.put_table(0x26, place, &name_list(random));
+    let list = name_list(random);
+    let place = ground.header + ground.behind_the_header(random);
+    ground.put(ground.header + 0x2C, &(place as u32).to_le_bytes());
+    ground.put_word(0x20, list.len());
+    ground.put(place, &list);
+}
+
+fn modules(ground: &mut Ground, random: &mut Random) {
+    let references = module_references(random);
+    let place = ground.behind_the_header(random);
+    ground.put_table(0x28, place, &references);
+    ground.put_word(0x1E, references.len() / 2);
+    // A list of names holds strings as the imported names do.
+    let place = ground.behind_the_header(random);
+    ground.put_table(0x2A, place, &name_list(random));
+}
+
+fn resources(ground: &mut Ground, random: &mut Random) {
+    let place = ground.behind_the_header(random);
+    ground.put_table(0x24, place, &resource_table(random));
+}
+
+fn entries(ground: &mut Ground, random: &mut Random) {
+    let table = entry_table(random);
+    let place = ground.behind_the_header(random);
+    ground.put_table(0x04, place, &table);
+    ground.put_word(0x06, table.len());
+}
 
 impl Ground {
     /// The NE header is often near the start, so that there is room for tables
@@ -98,6 +110,19 @@ impl Ground {
         let farthest = random.pick(&[9, 1_000]);
         ground.header = 64 + random.below(ground.room().min(farthest) + 1);
         ground
+    }
+
+    /// Gives how many things were planted.
+    fn plant(&mut self, random: &mut Random) -> usize {
+        let headers = random.below(10).min(HEADERS.len());
+        let mut plants = HEADERS[..headers].to_vec();
+        if headers == HEADERS.len() {
+            plants.extend(TABLES.iter().filter(|_| random.chance(50)));
+        }
+        for plant in &plants {
+            plant(self, random);
+        }
+        plants.len()
     }
 
     /// The bytes that two headers leave.
