@@ -1,12 +1,16 @@
 //! Queries that are wrong in one respect, to be found out.
 
+mod header;
 pub mod module;
 pub mod names;
 pub mod ordinal;
 pub mod resources;
 pub mod segment;
 
-use crate::calls::Call;
+use crate::calls::{
+    Call, ModuleQuery, NameByBytes, NameByNumber, OrdinalQuery, Query, ResourceByNumber,
+    ResourceByWords, SegmentQuery,
+};
 
 /// A call with a name for what is wrong in it.
 pub type Named = (&'static str, Box<dyn Call>);
@@ -49,7 +53,28 @@ pub fn at_an_edge() -> Vec<Named> {
     all.extend(by_number.map(|(name, query)| named(name, resources::by_number(query))));
     let by_words = resources::WRONG_BY_WORDS;
     all.extend(by_words.map(|(name, query)| named(name, resources::by_words(query))));
+    all.extend(wrong_headers());
     all
+}
+
+fn wrong_headers() -> Vec<Named> {
+    let mut all = Vec::new();
+    add_wrong_headers::<SegmentQuery>(&mut all);
+    add_wrong_headers::<OrdinalQuery>(&mut all);
+    add_wrong_headers::<NameByNumber>(&mut all);
+    add_wrong_headers::<NameByBytes>(&mut all);
+    add_wrong_headers::<ModuleQuery>(&mut all);
+    add_wrong_headers::<ResourceByNumber>(&mut all);
+    add_wrong_headers::<ResourceByWords>(&mut all);
+    all
+}
+
+fn add_wrong_headers<Q: Query>(all: &mut Vec<Named>)
+where
+    Q::Result: From<Result<Q::Values, u32>>,
+{
+    let wrong = header::functions::<Q>().into_iter();
+    all.extend(wrong.map(|(name, function)| named(name, function)));
 }
 
 /// Wrong in a rare case only, which is for the generated cases to find.

@@ -7,6 +7,7 @@ pub fn edges(judge: &mut Judge) {
     alone(judge);
     equal_later(judge);
     one_in_each(judge);
+    of_shared_bytes(judge);
 }
 
 fn alone(judge: &mut Judge) {
@@ -94,7 +95,10 @@ fn one_in_each(judge: &mut Judge) {
         b"A",
         [2, 133, 1, 2],
     );
-    // Both lists are the same bytes.
+}
+
+/// Both lists have the same bytes, or one has the end of the other.
+fn of_shared_bytes(judge: &mut Judge) {
     let shared = resident(&list(&[b"M", b"A"]));
     let shared = shared.ne_word(0x20, 9).ne_dword(0x2C, 128);
     misses(judge, "M of one list for both", &shared, b"M");

@@ -44,14 +44,6 @@ fn low_word(image: &[u8], number: &u32) -> SegmentResult {
     right(image, &(number & 0xFFFF))
 }
 
-/// The image may be one byte longer.
-fn longer(image: &[u8], number: &u32) -> SegmentResult {
-    match image.len() {
-        16_777_217 => right(&image[..16_777_216], number),
-        _ => right(image, number),
-    }
-}
-
 /// All images are refused.
 pub fn refusing(_: &[u8], _: &u32) -> SegmentResult {
     refused(1)
@@ -59,11 +51,10 @@ pub fn refusing(_: &[u8], _: &u32) -> SegmentResult {
 
 type Query = fn(&[u8], &u32) -> SegmentResult;
 
-pub const WRONG: [(&str, Query); 5] = [
+pub const WRONG: [(&str, Query); 4] = [
     ("exchanged", exchanged),
     ("unclean", unclean),
     ("low word", low_word),
-    ("longer", longer),
     ("refusing", refusing),
 ];
 
