@@ -236,7 +236,6 @@ static struct ne_name_result find(const uint8_t *image, const char *name)
 static void names_by_bytes(void)
 {
     uint8_t image[SIZE];
-    uint8_t *nowhere = NULL;
     make(image);
     name_accepted("Alpha", find(image, "Alpha"), 2, 207, 5, 0x1234);
     name_accepted("Omega!", find(image, "Omega!"), 4, 229, 6, 0xabcd);
@@ -246,7 +245,7 @@ static void names_by_bytes(void)
     name_refused("a first string", find(image, "MOD"), 17);
     name_refused("a name cut short", find(image, "Omega"), 17);
     name_refused("no bytes", find(image, ""), 17);
-    name_refused("no bytes at no place", ne_name_by_bytes(image, sizeof image, nowhere, 0), 17);
+    name_refused("no bytes at no place", ne_name_by_bytes(image, sizeof image, NULL, 0), 17);
     name_refused("a whole image as a name", ne_name_by_bytes(image, sizeof image, image, sizeof image), 17);
     put_word(image + 64 + 0x26, 0xffff);
     name_refused("a name list outside", find(image, "Alpha"), 16);

@@ -1,8 +1,9 @@
 //! Each refusal at its exact edges, on both sides.
 //!
 //! The images and the expected answers are written out by hand from document
-//! 01 and demanded of both programs. A call has a file of its own here; what
-//! every call does first is in `header`.
+//! 01 and demanded of both programs. A call has a file of its own here. What
+//! every call does first is in `header`; what two calls have in common is in
+//! `names` and `resources`.
 
 mod header;
 pub mod judge;

@@ -11,8 +11,11 @@ use super::judge::{Edges, Judge};
 use super::minimal::Minimal;
 use crate::calls::{FieldsOf, Query, Request};
 
-/// What these edges need of a query: images to change one thing in.
-pub trait HeaderEdges: Query {
+/// Images to change one thing in.
+pub trait Images {
+    /// Those of an accepted answer.
+    type Fields: Copy;
+
     /// 144 bytes: the NE header at 64 with shift 0, one segment's record at
     /// 128, and what the query needs, which ends before the last byte or with
     /// it. Where the query doesn't need them there are no modules, and there
@@ -22,17 +25,10 @@ pub trait HeaderEdges: Query {
     /// Where in it those bytes start that the query needs.
     const NEEDED_FROM: usize;
 
-    /// What is asked for.
-    fn asked() -> Self::Request;
+    /// What is given there.
+    const PLAIN: Self::Fields;
 
-    /// What that gives on the plain image.
-    const PLAIN: FieldsOf<Self>;
-
-    /// Requests that are refused there, or for which the image has another
-    /// answer.
-    fn others() -> Vec<Self::Request>;
-
-    /// The plain image, but that the query's own checks refuse what is asked.
+    /// The same, but that the query's own checks refuse what is asked.
     fn unsound() -> Minimal;
 
     /// An image that ends with its NE header, which is here and has in it all
@@ -40,13 +36,37 @@ pub trait HeaderEdges: Query {
     fn in_header(place: usize) -> Minimal;
 
     /// What is given there.
-    fn fields_in_header(place: usize) -> FieldsOf<Self>;
+    fn fields_in_header(place: usize) -> Self::Fields;
+
+    /// The tables that the query reads, apart from the segments' records.
+    const READS: &'static [Table];
+}
+
+/// What these edges need of a query.
+pub trait HeaderEdges: Query {
+    type Images: Images<Fields = FieldsOf<Self>>;
+
+    /// What is asked for.
+    fn asked() -> Self::Request;
+
+    /// Requests that are refused on the plain image, or for which it has
+    /// another answer.
+    fn others() -> Vec<Self::Request>;
 
     /// The refusal where no table has a size or a place.
     const WITHOUT_TABLES: u32;
 
-    /// The tables that the query reads, apart from the segments' records.
-    const READS: &'static [Table];
+    fn plain() -> Minimal {
+        Self::Images::plain()
+    }
+
+    fn unsound() -> Minimal {
+        Self::Images::unsound()
+    }
+
+    fn in_header(place: usize) -> Minimal {
+        Self::Images::in_header(place)
+    }
 }
 
 /// A table that some queries read and others don't.
@@ -73,18 +93,18 @@ pub fn by_subject<Q: HeaderEdges>() -> Vec<Edges<Q>> {
 
 /// Whether the query reads the table.
 fn reads<Q: HeaderEdges>(table: Table) -> bool {
-    Q::READS.contains(&table)
+    Q::Images::READS.contains(&table)
 }
 
 impl<Q: HeaderEdges> Judge<Q> {
     /// What is asked is answered as on the plain image.
     pub fn accepts_plain(&mut self, name: &str, image: &Minimal) {
-        self.accepts(name, image, Q::asked(), Q::PLAIN);
+        self.accepts(name, image, Q::asked(), Q::Images::PLAIN);
     }
 
     /// What is asked is answered from what the NE header holds.
     fn accepts_in_header(&mut self, name: &str, image: &Minimal) {
-        let fields = Q::fields_in_header(image.header());
+        let fields = Q::Images::fields_in_header(image.header());
         self.accepts(name, image, Q::asked(), fields);
     }
 

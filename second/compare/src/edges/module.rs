@@ -7,7 +7,7 @@ mod string;
 mod tables;
 mod untested;
 
-use super::header::{self, HeaderEdges, Table};
+use super::header::{self, HeaderEdges, Images, Table};
 use super::judge::{self, Edges};
 use super::minimal::Minimal;
 use super::{other_numbers, GREAT};
@@ -28,6 +28,25 @@ pub fn by_subject() -> Vec<Edges<ModuleQuery>> {
 }
 
 impl HeaderEdges for ModuleQuery {
+    type Images = ModuleImages;
+
+    fn asked() -> u32 {
+        1
+    }
+
+    fn others() -> Vec<u32> {
+        other_numbers()
+    }
+
+    const WITHOUT_TABLES: u32 = 8;
+}
+
+/// A module reference for the header's edges.
+pub struct ModuleImages;
+
+impl Images for ModuleImages {
+    type Fields = [u32; 2];
+
     /// Behind the segment's record stand the reference, the imported names'
     /// first byte and the string.
     fn plain() -> Minimal {
@@ -44,15 +63,7 @@ impl HeaderEdges for ModuleQuery {
 
     const NEEDED_FROM: usize = 136;
 
-    fn asked() -> u32 {
-        1
-    }
-
     const PLAIN: [u32; 2] = [140, 3];
-
-    fn others() -> Vec<u32> {
-        other_numbers()
-    }
 
     /// The empty string at 138.
     fn unsound() -> Minimal {
@@ -71,8 +82,6 @@ impl HeaderEdges for ModuleQuery {
     fn fields_in_header(place: usize) -> [u32; 2] {
         [place as u32 + 0x39, 7]
     }
-
-    const WITHOUT_TABLES: u32 = 8;
 
     const READS: &'static [Table] = &[Table::Modules, Table::ImportedNames];
 }

@@ -5,10 +5,10 @@ mod first_strings;
 mod lengths;
 mod text;
 
-use super::header::{HeaderEdges, Table};
+use super::header::HeaderEdges;
 use super::judge::{self, Edges};
 use super::minimal::Minimal;
-use super::names::{self, NameEdges};
+use super::names::{self, NameEdges, NameImages};
 use crate::calls::{NameByBytes, Text};
 
 type Judge = judge::Judge<NameByBytes>;
@@ -31,17 +31,11 @@ impl NameEdges for NameByBytes {
 }
 
 impl HeaderEdges for NameByBytes {
-    fn plain() -> Minimal {
-        names::plain()
-    }
-
-    const NEEDED_FROM: usize = 128;
+    type Images = NameImages;
 
     fn asked() -> Text {
         Text::of(b"A")
     }
-
-    const PLAIN: [u32; 4] = names::PLAIN;
 
     /// The first string, others, and names that no list can hold.
     fn others() -> Vec<Text> {
@@ -50,21 +44,7 @@ impl HeaderEdges for NameByBytes {
         asked.into_iter().map(Text::of).collect()
     }
 
-    fn unsound() -> Minimal {
-        names::unsound()
-    }
-
-    fn in_header(place: usize) -> Minimal {
-        names::in_header(place)
-    }
-
-    fn fields_in_header(place: usize) -> [u32; 4] {
-        names::fields_in_header(place)
-    }
-
     const WITHOUT_TABLES: u32 = names::WITHOUT_TABLES;
-
-    const READS: &'static [Table] = &names::READS;
 }
 
 /// The name is found.

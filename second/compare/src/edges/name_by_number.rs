@@ -2,10 +2,9 @@
 
 mod number;
 
-use super::header::{HeaderEdges, Table};
+use super::header::HeaderEdges;
 use super::judge::{self, Edges};
-use super::minimal::Minimal;
-use super::names::{self, NameEdges};
+use super::names::{self, NameEdges, NameImages};
 use super::GREAT;
 use crate::calls::NameByNumber;
 
@@ -24,35 +23,15 @@ impl NameEdges for NameByNumber {
 }
 
 impl HeaderEdges for NameByNumber {
-    fn plain() -> Minimal {
-        names::plain()
-    }
-
-    const NEEDED_FROM: usize = 128;
+    type Images = NameImages;
 
     fn asked() -> u32 {
         2
     }
 
-    const PLAIN: [u32; 4] = names::PLAIN;
-
     fn others() -> Vec<u32> {
         [0, 1, 3].into_iter().chain(GREAT).collect()
     }
 
-    fn unsound() -> Minimal {
-        names::unsound()
-    }
-
-    fn in_header(place: usize) -> Minimal {
-        names::in_header(place)
-    }
-
-    fn fields_in_header(place: usize) -> [u32; 4] {
-        names::fields_in_header(place)
-    }
-
     const WITHOUT_TABLES: u32 = names::WITHOUT_TABLES;
-
-    const READS: &'static [Table] = &names::READS;
 }

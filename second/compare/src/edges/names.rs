@@ -9,7 +9,7 @@ mod resident;
 mod untested;
 mod values;
 
-use super::header::{self, HeaderEdges, Table};
+use super::header::{self, HeaderEdges, Images, Table};
 use super::judge::{Edges, Judge};
 use super::minimal::Minimal;
 use crate::calls::Query;
@@ -61,30 +61,43 @@ impl<Q: NameEdges> Judge<Q> {
 /// 9 bytes: the first string "M", then "A" with the ordinal word 1234h.
 const SHORT: [u8; 9] = [1, b'M', 0, 0, 1, b'A', 0x34, 0x12, 0];
 
-/// The NE header at 64, the record of one segment at 128, and over it the short
-/// list.
-pub fn plain() -> Minimal {
-    Minimal::new()
-        .length(144)
-        .ne_word(0x1C, 1)
-        .ne_word(0x22, 64)
-        .ne_word(0x26, 64)
-        .put(128, &SHORT)
-}
+/// The short list for the header's edges.
+pub struct NameImages;
 
-/// The string "A" of [`plain`].
-pub const PLAIN: [u32; 4] = [2, 133, 1, 0x1234];
+impl Images for NameImages {
+    type Fields = [u32; 4];
 
-/// An image that ends with its NE header, in which the short list stands.
-pub fn in_header(place: usize) -> Minimal {
-    Minimal::with_header_at(place)
-        .ne_word(0x26, 0x34)
-        .put(place + 0x34, &SHORT)
-}
+    /// The list lies over the segment's record.
+    fn plain() -> Minimal {
+        Minimal::new()
+            .length(144)
+            .ne_word(0x1C, 1)
+            .ne_word(0x22, 64)
+            .ne_word(0x26, 64)
+            .put(128, &SHORT)
+    }
 
-/// The string "A" of [`in_header`].
-pub fn fields_in_header(place: usize) -> [u32; 4] {
-    [2, place as u32 + 0x39, 1, 0x1234]
+    const NEEDED_FROM: usize = 128;
+
+    /// The string "A".
+    const PLAIN: [u32; 4] = [2, 133, 1, 0x1234];
+
+    /// The second string's length passes the image.
+    fn unsound() -> Minimal {
+        Self::plain().put(132, &[12])
+    }
+
+    fn in_header(place: usize) -> Minimal {
+        Minimal::with_header_at(place)
+            .ne_word(0x26, 0x34)
+            .put(place + 0x34, &SHORT)
+    }
+
+    fn fields_in_header(place: usize) -> [u32; 4] {
+        [2, place as u32 + 0x39, 1, 0x1234]
+    }
+
+    const READS: &'static [Table] = &[Table::ResidentNames, Table::NonresidentNames];
 }
 
 /// A length byte, the text and its ordinal word.
@@ -123,12 +136,5 @@ pub fn both(resident_list: &[u8], nonresident: &[u8]) -> Minimal {
         .put(at, nonresident)
 }
 
-/// The second string's length passes the image.
-pub fn unsound() -> Minimal {
-    plain().put(132, &[12])
-}
-
 /// Where no table has a place, the list is read from "NE" on.
 pub const WITHOUT_TABLES: u32 = 16;
-
-pub const READS: [Table; 2] = [Table::ResidentNames, Table::NonresidentNames];

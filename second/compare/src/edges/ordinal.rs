@@ -9,7 +9,7 @@ mod segments;
 mod tables;
 mod untested;
 
-use super::header::{self, HeaderEdges, Table};
+use super::header::{self, HeaderEdges, Images, Table};
 use super::judge::{self, Edges};
 use super::minimal::Minimal;
 use super::{other_numbers, GREAT};
@@ -32,6 +32,25 @@ pub fn by_subject() -> Vec<Edges<OrdinalQuery>> {
 }
 
 impl HeaderEdges for OrdinalQuery {
+    type Images = OrdinalImages;
+
+    fn asked() -> u32 {
+        1
+    }
+
+    fn others() -> Vec<u32> {
+        other_numbers()
+    }
+
+    const WITHOUT_TABLES: u32 = 15;
+}
+
+/// An entry table for the header's edges.
+pub struct OrdinalImages;
+
+impl Images for OrdinalImages {
+    type Fields = [u32; 3];
+
     /// The 8 bytes behind the segment's record are the entry table.
     fn plain() -> Minimal {
         plain()
@@ -39,15 +58,7 @@ impl HeaderEdges for OrdinalQuery {
 
     const NEEDED_FROM: usize = 136;
 
-    fn asked() -> u32 {
-        1
-    }
-
     const PLAIN: [u32; 3] = PLAIN;
-
-    fn others() -> Vec<u32> {
-        other_numbers()
-    }
 
     /// Segment 2 of 1.
     fn unsound() -> Minimal {
@@ -67,8 +78,6 @@ impl HeaderEdges for OrdinalQuery {
     fn fields_in_header(_: usize) -> [u32; 3] {
         PLAIN
     }
-
-    const WITHOUT_TABLES: u32 = 15;
 
     const READS: &'static [Table] = &[Table::Entries];
 }

@@ -2,10 +2,9 @@
 
 mod number;
 
-use super::header::{HeaderEdges, Table};
+use super::header::HeaderEdges;
 use super::judge::{self, Edges};
-use super::minimal::Minimal;
-use super::resources::{self, ResourceEdges};
+use super::resources::{self, ResourceEdges, ResourceImages};
 use super::{other_numbers, GREAT};
 use crate::calls::ResourceByNumber;
 
@@ -24,35 +23,15 @@ impl ResourceEdges for ResourceByNumber {
 }
 
 impl HeaderEdges for ResourceByNumber {
-    fn plain() -> Minimal {
-        resources::plain()
-    }
-
-    const NEEDED_FROM: usize = resources::NEEDED_FROM;
+    type Images = ResourceImages;
 
     fn asked() -> u32 {
         1
     }
 
-    const PLAIN: [u32; 5] = resources::PLAIN;
-
     fn others() -> Vec<u32> {
         other_numbers()
     }
 
-    fn unsound() -> Minimal {
-        resources::unsound()
-    }
-
-    fn in_header(place: usize) -> Minimal {
-        resources::in_header(place)
-    }
-
-    fn fields_in_header(_: usize) -> [u32; 5] {
-        resources::IN_HEADER
-    }
-
     const WITHOUT_TABLES: u32 = 8;
-
-    const READS: &'static [Table] = &resources::READS;
 }

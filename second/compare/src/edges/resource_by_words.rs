@@ -3,10 +3,9 @@
 mod first_match;
 mod words;
 
-use super::header::{HeaderEdges, Table};
+use super::header::HeaderEdges;
 use super::judge::{self, Edges};
-use super::minimal::Minimal;
-use super::resources::{self, ResourceEdges};
+use super::resources::{self, ResourceEdges, ResourceImages};
 use crate::calls::{ResourceByWords, Words};
 
 type Judge = judge::Judge<ResourceByWords>;
@@ -27,17 +26,11 @@ impl ResourceEdges for ResourceByWords {
 }
 
 impl HeaderEdges for ResourceByWords {
-    fn plain() -> Minimal {
-        resources::plain()
-    }
-
-    const NEEDED_FROM: usize = resources::NEEDED_FROM;
+    type Images = ResourceImages;
 
     fn asked() -> Words {
         (0x8001, 0x8002)
     }
-
-    const PLAIN: [u32; 5] = resources::PLAIN;
 
     /// Other words, words without the high bit, and no words at all.
     fn others() -> Vec<Words> {
@@ -54,19 +47,5 @@ impl HeaderEdges for ResourceByWords {
         ]
     }
 
-    fn unsound() -> Minimal {
-        resources::unsound()
-    }
-
-    fn in_header(place: usize) -> Minimal {
-        resources::in_header(place)
-    }
-
-    fn fields_in_header(_: usize) -> [u32; 5] {
-        resources::IN_HEADER
-    }
-
     const WITHOUT_TABLES: u32 = 19;
-
-    const READS: &'static [Table] = &resources::READS;
 }

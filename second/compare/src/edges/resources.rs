@@ -10,7 +10,7 @@ mod shift;
 mod untested;
 mod values;
 
-use super::header::{self, HeaderEdges, Table};
+use super::header::{self, HeaderEdges, Images, Table};
 use super::judge::{Edges, Judge};
 use super::minimal::Minimal;
 use crate::calls::Query;
@@ -110,39 +110,45 @@ pub fn fields(data_at: u32, data_len: u32) -> [u32; 5] {
     [0x8001, 0x8002, 0x0C30, data_at, data_len]
 }
 
-/// The NE header at 64 and the record of one segment at 128. The table of one
-/// resource lies over both, from the header's 36h on.
-pub fn plain() -> Minimal {
-    Minimal::new()
-        .length(144)
-        .ne_word(0x1C, 1)
-        .ne_word(0x22, 64)
-        .ne_word(0x24, 0x36)
-        .put(
-            118,
-            &table(0, &[block(0x8001, &[[128, 8, 0x0C30, 0x8002]])]),
-        )
+/// A table of one resource for the header's edges.
+pub struct ResourceImages;
+
+impl Images for ResourceImages {
+    type Fields = [u32; 5];
+
+    /// The table lies over the header, from 36h on, and the segment's record.
+    fn plain() -> Minimal {
+        let resource = [128, 8, 0x0C30, 0x8002];
+        Minimal::new()
+            .length(144)
+            .ne_word(0x1C, 1)
+            .ne_word(0x22, 64)
+            .ne_word(0x24, 0x36)
+            .put(118, &table(0, &[block(0x8001, &[resource])]))
+    }
+
+    const NEEDED_FROM: usize = 118;
+
+    const PLAIN: [u32; 5] = [0x8001, 0x8002, 0x0C30, 128, 8];
+
+    /// The table's shift is 16.
+    fn unsound() -> Minimal {
+        Self::plain().put_word(118, 16)
+    }
+
+    /// The table stands from 08h on. It ends with the count of modules, which
+    /// is 0.
+    fn in_header(place: usize) -> Minimal {
+        let words = [0, 0x8001, 1, 0xEEEE, 0xEEEE, 32, 3, 0x0C30, 0x8002];
+        let image = Minimal::with_header_at(place).ne_word(0x24, 0x08);
+        let put =
+            |image: Minimal, (index, word): (usize, u16)| image.ne_word(0x08 + 2 * index, word);
+        words.into_iter().enumerate().fold(image, put)
+    }
+
+    fn fields_in_header(_: usize) -> [u32; 5] {
+        [0x8001, 0x8002, 0x0C30, 32, 3]
+    }
+
+    const READS: &'static [Table] = &[Table::Resources];
 }
-
-pub const PLAIN: [u32; 5] = [0x8001, 0x8002, 0x0C30, 128, 8];
-
-/// Where the table of [`plain`] starts.
-pub const NEEDED_FROM: usize = 118;
-
-/// The table's shift is 16.
-pub fn unsound() -> Minimal {
-    plain().put_word(118, 16)
-}
-
-/// An image that ends with its NE header, in which the table of one resource
-/// stands from 08h on. It ends with the count of modules, which is 0.
-pub fn in_header(place: usize) -> Minimal {
-    let words = [0, 0x8001, 1, 0xEEEE, 0xEEEE, 32, 3, 0x0C30, 0x8002];
-    let image = Minimal::with_header_at(place).ne_word(0x24, 0x08);
-    let put = |image: Minimal, (index, word): (usize, u16)| image.ne_word(0x08 + 2 * index, word);
-    words.into_iter().enumerate().fold(image, put)
-}
-
-pub const IN_HEADER: [u32; 5] = [0x8001, 0x8002, 0x0C30, 32, 3];
-
-pub const READS: [Table; 1] = [Table::Resources];

@@ -9,7 +9,7 @@ mod stored;
 mod tables;
 mod untested;
 
-use super::header::{self, HeaderEdges, Table};
+use super::header::{self, HeaderEdges, Images, Table};
 use super::judge::{self, Edges};
 use super::minimal::Minimal;
 use super::{other_numbers, GREAT};
@@ -32,6 +32,25 @@ pub fn by_subject() -> Vec<Edges<SegmentQuery>> {
 }
 
 impl HeaderEdges for SegmentQuery {
+    type Images = SegmentImages;
+
+    fn asked() -> u32 {
+        1
+    }
+
+    fn others() -> Vec<u32> {
+        other_numbers()
+    }
+
+    const WITHOUT_TABLES: u32 = 8;
+}
+
+/// A segment for the header's edges.
+pub struct SegmentImages;
+
+impl Images for SegmentImages {
+    type Fields = [u32; 5];
+
     /// The 8 bytes behind the record are those stored.
     fn plain() -> Minimal {
         plain()
@@ -39,15 +58,7 @@ impl HeaderEdges for SegmentQuery {
 
     const NEEDED_FROM: usize = 128;
 
-    fn asked() -> u32 {
-        1
-    }
-
     const PLAIN: [u32; 5] = PLAIN;
-
-    fn others() -> Vec<u32> {
-        other_numbers()
-    }
 
     fn unsound() -> Minimal {
         plain().record(128, [0xFFFF, 0, 0x0108, 1])
@@ -64,8 +75,6 @@ impl HeaderEdges for SegmentQuery {
     fn fields_in_header(_: usize) -> [u32; 5] {
         [0, 0, 0x0010, 3, 0]
     }
-
-    const WITHOUT_TABLES: u32 = 8;
 
     const READS: &'static [Table] = &[];
 }

@@ -1,6 +1,6 @@
 //! What neither a header check nor the query looks at.
 
-use super::{reads, HeaderEdges, Judge, Minimal, Table};
+use super::{reads, HeaderEdges, Images, Judge, Minimal, Table};
 
 pub fn edges<Q: HeaderEdges>(judge: &mut Judge<Q>) {
     other_fields(judge);
@@ -45,7 +45,7 @@ fn other_fields<Q: HeaderEdges>(judge: &mut Judge<Q>) {
 fn unread_filled<Q: HeaderEdges>() -> Minimal {
     let mut image = Q::plain();
     for (from, to) in UNREAD {
-        let (from, to) = (64 + from, (64 + to).min(Q::NEEDED_FROM));
+        let (from, to) = (64 + from, (64 + to).min(Q::Images::NEEDED_FROM));
         image = image.put(from, &vec![0xFF; to - from]);
     }
     image

@@ -1,7 +1,7 @@
 //! Refusal 17: an empty or over-long name asked for isn't found.
 
-use super::names::{both, list, plain, resident};
-use super::{finds, misses, Judge, Text};
+use super::names::{both, list, resident};
+use super::{finds, misses, HeaderEdges, Judge, NameByBytes, Text};
 
 pub fn edges(judge: &mut Judge) {
     empty(judge);
@@ -13,7 +13,7 @@ pub fn edges(judge: &mut Judge) {
 /// Also where a list holds nothing but its end byte, and at any address.
 fn empty(judge: &mut Judge) {
     let images = [
-        plain(),
+        NameByBytes::plain(),
         resident(&[0]),
         both(&[0], &[0]),
         both(&list(&[b"M"]), &list(&[b"D"])),
@@ -72,7 +72,7 @@ fn low_byte_of_the_length(judge: &mut Judge) {
 
 /// Longer than the image, and as long as the longest image.
 fn very_long(judge: &mut Judge) {
-    let image = plain();
+    let image = NameByBytes::plain();
     let text = vec![b'A'; 16_777_216];
     for length in [142, 144, 145, 1_000_000, 16_777_216] {
         misses(judge, &format!("{length} bytes"), &image, &text[..length]);

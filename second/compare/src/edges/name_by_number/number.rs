@@ -1,7 +1,7 @@
 //! Refusal 8: the number asked for.
 
-use super::names::{both, list, plain, resident, string};
-use super::{Judge, GREAT};
+use super::names::{both, list, resident, string};
+use super::{HeaderEdges, Judge, NameByNumber, GREAT};
 
 pub fn edges(judge: &mut Judge) {
     first_strings(judge);
@@ -14,7 +14,12 @@ pub fn edges(judge: &mut Judge) {
 
 /// Each list's first string has a number too.
 fn first_strings(judge: &mut Judge) {
-    judge.accepts("the resident first", &plain(), 1, [1, 129, 1, 0]);
+    judge.accepts(
+        "the resident first",
+        &NameByNumber::plain(),
+        1,
+        [1, 129, 1, 0],
+    );
     let one = resident(&list(&[b"MODULE"]));
     judge.accepts("1 of 1", &one, 1, [1, 129, 6, 1]);
     judge.refuses("0 of 1", &one, 0, 8);

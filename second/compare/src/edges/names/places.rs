@@ -1,7 +1,7 @@
 //! Where the lists stand: past 16 and 24 bits, over each other, and counted
 //! from the right place.
 
-use super::{both, in_header, list, plain, resident, Judge, Minimal, NameEdges, PLAIN, SHORT};
+use super::{both, list, resident, Judge, Minimal, NameEdges, SHORT};
 
 pub fn edges<Q: NameEdges>(judge: &mut Judge<Q>) {
     past_16_bits(judge);
@@ -29,7 +29,7 @@ fn past_16_bits<Q: NameEdges>(judge: &mut Judge<Q>) {
 /// The list ends an image of 16,777,216 bytes.
 fn past_24_bits<Q: NameEdges>(judge: &mut Judge<Q>) {
     const END: usize = 16_777_216;
-    let last = in_header(END - 64 - 1).length(END);
+    let last = Q::in_header(END - 64 - 1).length(END);
     let fields = [2, 16_777_208, 1, 0x1234];
     judge.holds("resident, a byte before the end", &last, b"A", fields);
     let at_the_end = Minimal::with_header_at(END - 64)
@@ -73,8 +73,8 @@ fn counted_from<Q: NameEdges>(judge: &mut Judge<Q>) {
 
 /// Lists may lie over each other, over the headers and over other tables.
 fn overlaps<Q: NameEdges>(judge: &mut Judge<Q>) {
-    let shared = plain().ne_word(0x20, 9).ne_dword(0x2C, 128);
-    judge.holds("one list for both", &shared, b"A", PLAIN);
+    let shared = Q::plain().ne_word(0x20, 9).ne_dword(0x2C, 128);
+    judge.accepts_plain("one list for both", &shared);
     judge.lacks("nothing behind one list for both", &shared, 5, b"B");
     // The second list starts at the first one's second string.
     let tail = both(&list(&[b"M", b"A", b"B"]), &[]);
@@ -84,7 +84,7 @@ fn overlaps<Q: NameEdges>(judge: &mut Judge<Q>) {
     judge.lacks("nothing behind the tail", &tail, 6, b"C");
     // "MZ" starts a string of 77 bytes, whose ordinal word is the NE header's
     // at 0Eh. The next one stands at 10h there, up to 18h.
-    let header = plain()
+    let header = Q::plain()
         .put_word(78, 0x5678)
         .put(80, b"\x04NAME\xBC\x9A\x00")
         .ne_dword(0x2C, 0)

@@ -1,6 +1,6 @@
 //! Where the table stands: past 16 and 24 bits, and over other things.
 
-use super::{block, fields, in_header, module, one, table, Judge, Minimal, ResourceEdges};
+use super::{block, fields, module, one, table, Judge, Minimal, ResourceEdges};
 
 pub fn edges<Q: ResourceEdges>(judge: &mut Judge<Q>) {
     past_16_bits(judge);
@@ -39,8 +39,6 @@ fn past_24_bits<Q: ResourceEdges>(judge: &mut Judge<Q>) {
     judge.gives("the last 24 of 16 MB", &image, 1, fields(0, 4));
     let unended = image.put(END - 2, &[1]);
     judge.refuses_all("not ended there", &unended, 18);
-    let header = in_header(END - 64);
-    judge.gives("in a header that ends 16 MB", &header, 1, super::IN_HEADER);
 }
 
 /// The place counts from the NE header; the data's from the file's start.
