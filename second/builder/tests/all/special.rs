@@ -148,7 +148,13 @@ fn names_and_resources() {
     let count =
         |name| check::names(&made(name).image.bytes).map(|[one, two]| (one.len(), two.len()));
     assert_eq!(count("65,537 resident names"), Ok((65_537, 0)));
+    assert_eq!(count("65,537 resident names, less 1"), Err(16));
     assert_eq!(count("16,383 nonresident names"), Ok((0, 16_383)));
+    assert_eq!(count("16,383 nonresident names, not ended"), Err(16));
+    assert_eq!(
+        count("65,530 resident and 10 nonresident names"),
+        Ok((65_530, 10))
+    );
     assert_eq!(
         count("nonresident size 9 for a list of 9 bytes"),
         Ok((3, 1))
@@ -157,6 +163,7 @@ fn names_and_resources() {
     assert_eq!(count("ResidentNames ends the image, less 1"), Err(16));
     let count = |name| check::resources(&made(name).image.bytes).map(|all| all.len());
     assert_eq!(count("65,540 resources"), Ok(65_540));
+    assert_eq!(count("65,540 resources, less 1"), Err(18));
     assert_eq!(count("3,000 resources in 1,000 types"), Ok(3_000));
     assert_eq!(count("Resources ends the image, less 1"), Err(18));
     assert_eq!(count("resource shift 16"), Err(18));
@@ -164,4 +171,19 @@ fn names_and_resources() {
     assert_eq!(module("ImportedNames ends the image, less 0"), Ok(6));
     assert_eq!(module("ImportedNames ends the image, less 1"), Err(16));
     assert_eq!(module("65,535 modules"), Ok(6));
+}
+
+/// Every table is there and read well, past 16 bits.
+#[test]
+fn tables_further_on() {
+    for gap in [65_472, 65_536, 100_001] {
+        let case = made(&format!("every table, {gap} bytes further"));
+        let bytes = &case.image.bytes;
+        assert_eq!(case.image.layout.header_at, 64 + gap);
+        let names = check::names(bytes).map(|[one, two]| (one.len(), two.len()));
+        assert_eq!(names, Ok((3, 3)));
+        assert_eq!(check::entries(bytes).map(|all| all.len()), Ok(4));
+        assert_eq!(check::resources(bytes).map(|all| all.len()), Ok(2));
+        assert_eq!(check::module(bytes, 2).map(|text| text.len()), Ok(6));
+    }
 }
