@@ -32,7 +32,7 @@ use Rattle.resources.specs.declared.Match.{Match}
 use Rattle.resources.specs.declared.Match.the-variants.{Found, Nothing}
 use Rattle.resources.specs.declared.Walked.the-variants as walked
 use Rattle.resources.specs.Resource.{Place, stepOf, blockAt, blocksFrom, resourcesOf, dataChecked, hasWords, resourceByNumber, resourceByWords}
-use Rattle.resources.specs.Search.{wanted, walkOf, decided, answerIn, answerOf}
+use Rattle.resources.specs.Search.{wanted, walkOf, concluded, answerIn, answerOf}
 use Rattle.resources.proofs.InBlock.{many, in-order}
 use Rattle.resources.proofs.Blocks.{went}
 
@@ -55,9 +55,9 @@ module _ (image : List ℕ) (h : Header) where
 
 -- The answer from a table.
 abbrev pub answerFrom : ℕ → Table Resource Refusal → Request → Refusal → Answer
-answerFrom len t asked none = onTable t Refused λ rs. decided len (firstOf (wanted asked) Found Nothing rs) none
+answerFrom len t asked none = onTable t Refused λ rs. concluded len (firstOf (wanted asked) Found Nothing rs) none
 
-pub sound-answer : (len : ℕ) (t : Table Resource Refusal) (asked : Request) (none : Refusal) (m : Match) → walkOf t asked ≡ walked.Sound m → answerFrom len t asked none ≡ decided len m none
+pub sound-answer : (len : ℕ) (t : Table Resource Refusal) (asked : Request) (none : Refusal) (m : Match) → walkOf t asked ≡ walked.Sound m → answerFrom len t asked none ≡ concluded len m none
 sound-answer len (Sound rs) asked none m e =
     let is : m ≡ firstOf (wanted asked) Found Nothing rs = cc in
     rw is
@@ -92,8 +92,8 @@ numbers image h rs e = go (eqb (h .resources) (h .resident)) (ltb (length image)
     go false false false q = numbers-from image (wordAt image (h .resources)) (h .resources + 2) rs q
 
 -- What was found decides as each element would.
-through : (len : ℕ) (asked : Request) (none : Refusal) (rs : List Resource) → decided len (firstOf (wanted asked) Found Nothing rs) none ≡ firstOf (wanted asked) (dataChecked len) (Refused none) rs
-through len asked none rs = first-through Found (λ m. decided len m none) (wanted asked) Nothing rs
+through : (len : ℕ) (asked : Request) (none : Refusal) (rs : List Resource) → concluded len (firstOf (wanted asked) Found Nothing rs) none ≡ firstOf (wanted asked) (dataChecked len) (Refused none) rs
+through len asked none rs = first-through Found (λ m. concluded len m none) (wanted asked) Nothing rs
 
 pub by-number : (image : List ℕ) (number : ℕ) → answerOf image (Number number) NoSuchNumber ≡ resourceByNumber image number
 unfolding answerOf answerIn resourceByNumber

@@ -46,12 +46,12 @@ abbrev pub walkOf : Table Resource Refusal → request.Request → walk.Walked
 walkOf t asked = onTable t walks.Unsound λ rs. walks.Sound (firstOf (wanted asked) Found Nothing rs)
 
 -- The answer for what was found.
-abbrev pub decided : ℕ → match.Match → Refusal → Answer
-decided len (Found r) none = dataChecked len r
-decided len Nothing none = Refused none
+abbrev pub concluded : ℕ → match.Match → Refusal → Answer
+concluded len (Found r) none = dataChecked len r
+concluded len Nothing none = Refused none
 
 unfoldable pub answerIn : List ℕ → Header → request.Request → Refusal → Answer
-answerIn image h asked none = onTable (resourcesOf image h) Refused λ rs. decided (length image) (firstOf (wanted asked) Found Nothing rs) none
+answerIn image h asked none = onTable (resourcesOf image h) Refused λ rs. concluded (length image) (firstOf (wanted asked) Found Nothing rs) none
 
 unfoldable pub answerOf : List ℕ → request.Request → Refusal → Answer
 answerOf image asked none = onHeader (headerOf image) Refused λ h. answerIn image h asked none

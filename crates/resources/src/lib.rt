@@ -8,7 +8,7 @@ use header::Header;
 use refusal::Refusal;
 ghost use mathlib.Core.Path.{_≡_};
 ghost use Rattle.resources.specs.Resource.{resourceByNumber, resourceByWords};
-ghost use Rattle.resources.specs.Search.{answerOf, answerIn, decided};
+ghost use Rattle.resources.specs.Search.{answerOf, answerIn, concluded};
 
 pub struct Resource {
     // Counted from 1 in file order, all types together.
@@ -90,13 +90,13 @@ fn in_table(image: &[u8], h: Header, request: Request, none: Refusal) -> Answer
     let walked = table::walk(image, shift, at + 2, request);
     match walked {
         Walked::Unsound(why) => Answer::Refused(why),
-        Walked::Sound(found) => decide(len, found, none),
+        Walked::Sound(found) => conclude(len, found, none),
     }
 }
 
 // The answer for what was found: data that leaves an image of `len` bytes is refused.
-fn decide(len: usize, found: Match, none: Refusal) -> Answer
-    ensures { λ r. ⌜ r ≡ decided len found none ⌝ }
+fn conclude(len: usize, found: Match, none: Refusal) -> Answer
+    ensures { λ r. ⌜ r ≡ concluded len found none ⌝ }
 {
     match found {
         Match::Nothing => Answer::Refused(none),

@@ -55,8 +55,8 @@ enum-known-walked c = search needs
 enum-known-walked-2 : tie.Need-enum-known-walked-2
 enum-known-walked-2 c = search needs
 
-decide-requires : tie.Need-decide-requires
-decide-requires c κs = search needs
+conclude-requires : tie.Need-conclude-requires
+conclude-requires c κs = search needs
 
 -- What the walk was of.
 walked : (c : tie.After-walk) → (answerIn (now (c .before .before .before .before .before .before .before .before .args .image)) (c .before .before .before .before .before .before .before .before .args .h) (c .before .before .before .before .before .before .before .before .args .request) (c .before .before .before .before .before .before .before .before .args .none) ≡ answerFrom (length (now (c .before .before .before .before .before .before .before .before .args .image))) (blocksFrom (now (c .before .before .before .before .before .before .before .before .args .image)) (c .before .before .word .result) (c .before .before .before .before .before .before .before .before .args .h .resources + 2)) (c .before .before .before .before .before .before .before .before .args .request) (c .before .before .before .before .before .before .before .before .args .none))
@@ -79,7 +79,7 @@ returns-5 : tie.Need-returns-5
 returns-5 c =
     let a = c .before .before .before .before .before .before .before .before .before .before .before .before .args in
     let t = blocksFrom (now (a .image)) (c .before .before .before .before .before .before .word .result) (a .h .resources + 2) in
-    c .decide .ensures ∙ sym (walked (c .before .before .before .before) ∙ sound-answer (length (now (a .image))) t (a .request) (a .none) (c .before .before .walked2 .given .0 .0) (sym (c .before .before .before .before .walk .ensures) ∙ c .before .before .walked2 .given .1))
+    c .conclude .ensures ∙ sym (walked (c .before .before .before .before) ∙ sound-answer (length (now (a .image))) t (a .request) (a .none) (c .before .before .walked2 .given .0 .0) (sym (c .before .before .before .before .walk .ensures) ∙ c .before .before .walked2 .given .1))
 
 pub in-table-spec : {M : Type 1} → statement M
 in-table-spec =
@@ -95,6 +95,6 @@ in-table-spec =
     walk-requires
     enum-known-walked
     enum-known-walked-2
-    decide-requires
+    conclude-requires
     returns-4
     returns-5)

@@ -1,12 +1,12 @@
--- `resources::decide` meets its contract: the test is the definition's.
+-- `resources::conclude` meets its contract: the test is the definition's.
 -- Assumes nothing.
 use Prim.Native.Nat.{_+_, _≤_}
 use native.Mathlib.Omega.{arith}
 use borrow.Author.Tests.{lt-ltb, le-ltb}
 use Rattle.resources.specs.Resource.{dataChecked}
 use borrow.Author.Needs.{needs}
-use Rattle.resources.proofs.decide.Statement.{statement}
-use Rattle.resources.proofs.decide.Tie as tie
+use Rattle.resources.proofs.conclude.Statement.{statement}
+use Rattle.resources.proofs.conclude.Tie as tie
 
 enum-told : tie.Need-enum-told
 enum-told c = search needs
@@ -37,7 +37,7 @@ returns-3 c =
     let inside : r .at + r .len ≤ c .before .before .before .before .before .before .args .len = omega arith in
     rw (c .before .before .before .before .found .given .1, le-ltb _ _ inside)
 
-pub decide-spec : {M : Type 1} → statement M
-decide-spec =
+pub conclude-spec : {M : Type 1} → statement M
+conclude-spec =
     tie.close
     (tie.spec enum-told enum-known-found cast-if1 cast-if1-2 add-if1 returns returns-2 returns-3)
