@@ -31,11 +31,7 @@ impl Query for ModuleQuery {
 
     fn worth_asking(input: &Input, request: u64, random: &mut Random) -> u32 {
         let last = stated::module_count(&input.bytes);
-        let mut any = || 1 + random.below(last as usize) as u32;
-        let worth = Worth {
-            last,
-            inside: [any(), any()],
-        };
+        let worth = Worth::up_to(last, random);
         number_to_ask(&worth, request, random)
     }
 

@@ -22,6 +22,15 @@ pub struct Worth {
     pub inside: [u32; 2],
 }
 
+impl Worth {
+    /// Any two of the numbers from 1 to the last.
+    pub fn up_to(last: u32, random: &mut Random) -> Self {
+        let mut any = || 1 + random.below(last as usize) as u32;
+        let inside = [any(), any()];
+        Worth { last, inside }
+    }
+}
+
 /// The edges of the table first, then numbers inside it, then wild ones.
 pub fn number_to_ask(worth: &Worth, request: u64, random: &mut Random) -> u32 {
     let [first, second] = worth.inside;

@@ -101,3 +101,12 @@ fn sound_header(image: &[u8]) -> Result<(), u32> {
         _ => Ok(()),
     }
 }
+
+/// Two refusals change places.
+fn exchanged<T>(answer: Result<T, u32>, one: u32, other: u32) -> Result<T, u32> {
+    answer.map_err(|refusal| match refusal {
+        _ if refusal == one => other,
+        _ if refusal == other => one,
+        _ => refusal,
+    })
+}

@@ -3,6 +3,7 @@
 mod fault;
 mod string;
 
+use super::exchanged;
 use crate::calls::{Function, ModuleQuery};
 use crate::results::ModuleResult;
 use fault::Fault;
@@ -29,15 +30,6 @@ pub fn rare_length(image: &[u8], number: &u32) -> ModuleResult {
         result.text_len += 1;
     }
     result
-}
-
-/// Refusals 8 and 16 change places.
-fn exchanged(image: &[u8], number: &u32) -> ModuleResult {
-    match right(image, number) {
-        ModuleResult { refusal: 8, .. } => refused(16),
-        ModuleResult { refusal: 16, .. } => refused(8),
-        result => result,
-    }
 }
 
 /// Refusal 16 leaves a value behind.
@@ -71,7 +63,9 @@ macro_rules! faulty {
 }
 
 pub const WRONG: [(&str, Query); 21] = [
-    ("exchanged", exchanged),
+    ("8 and 16", |image, number| {
+        exchanged(reference::module(image, *number), 8, 16).into()
+    }),
     ("unclean", unclean),
     ("other fields", other_fields),
     ("low word", |image, number| right(image, &(number & 0xFFFF))),

@@ -4,6 +4,7 @@ mod fault;
 mod lists;
 mod matches;
 
+use super::exchanged;
 use crate::calls::{Function, NameByBytes, NameByNumber, Text};
 use crate::results::NameResult;
 use fault::Fault;
@@ -54,15 +55,6 @@ pub fn rare_miss(image: &[u8], name: &Text) -> NameResult {
     }
 }
 
-/// One refusal in another's place.
-fn exchanged(result: NameResult, one: u32, other: u32) -> NameResult {
-    match result.refusal {
-        refusal if refusal == one => refused(other),
-        refusal if refusal == other => refused(one),
-        _ => result,
-    }
-}
-
 /// This refusal leaves a value behind.
 fn unclean(mut result: NameResult, refusal: u32) -> NameResult {
     if result.refusal == refusal {
@@ -103,7 +95,7 @@ macro_rules! bytes {
 
 pub const WRONG_BY_NUMBER: [(&str, ByNumber); 32] = [
     ("8 and 16", |image, number| {
-        exchanged(right_number(image, number), 8, 16)
+        exchanged(reference::name_by_number(image, *number), 8, 16).into()
     }),
     ("unclean 8", |image, number| {
         unclean(right_number(image, number), 8)
@@ -150,10 +142,10 @@ pub const WRONG_BY_NUMBER: [(&str, ByNumber); 32] = [
 
 pub const WRONG_BY_BYTES: [(&str, ByBytes); 43] = [
     ("16 and 17", |image, name| {
-        exchanged(right_bytes(image, name), 16, 17)
+        exchanged(reference::name_by_bytes(image, name.bytes()), 16, 17).into()
     }),
     ("8 for 17", |image, name| {
-        exchanged(right_bytes(image, name), 8, 17)
+        exchanged(reference::name_by_bytes(image, name.bytes()), 8, 17).into()
     }),
     ("unclean 17", |image, name| {
         unclean(right_bytes(image, name), 17)

@@ -3,6 +3,7 @@
 mod fault;
 mod walk;
 
+use super::exchanged;
 use crate::calls::{Function, OrdinalQuery};
 use crate::results::OrdinalResult;
 use fault::Fault;
@@ -29,15 +30,6 @@ pub fn rare_offset(image: &[u8], number: &u32) -> OrdinalResult {
         result.offset -= 1;
     }
     result
-}
-
-/// Refusals 12 and 13 change places.
-fn exchanged(image: &[u8], number: &u32) -> OrdinalResult {
-    match right(image, number) {
-        OrdinalResult { refusal: 12, .. } => refused(13),
-        OrdinalResult { refusal: 13, .. } => refused(12),
-        result => result,
-    }
 }
 
 /// Refusal 15 leaves a value behind.
@@ -89,7 +81,9 @@ macro_rules! faulty {
 }
 
 pub const WRONG: [(&str, Query); 30] = [
-    ("exchanged", exchanged),
+    ("12 and 13", |image, number| {
+        exchanged(reference::ordinal(image, *number), 12, 13).into()
+    }),
     ("unclean", unclean),
     ("number 0 is 8", number_0_is_8),
     ("early 15", early_15),

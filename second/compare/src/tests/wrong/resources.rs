@@ -4,6 +4,7 @@ mod fault;
 mod found;
 mod table;
 
+use super::exchanged;
 use crate::calls::{Function, ResourceByNumber, ResourceByWords, Words};
 use crate::results::ResourceResult;
 use fault::Fault;
@@ -55,15 +56,6 @@ pub fn rare_miss(image: &[u8], words: &Words) -> ResourceResult {
     }
 }
 
-/// One refusal in another's place.
-fn exchanged(result: ResourceResult, one: u32, other: u32) -> ResourceResult {
-    match result.refusal {
-        refusal if refusal == one => refused(other),
-        refusal if refusal == other => refused(one),
-        _ => result,
-    }
-}
-
 /// This refusal leaves a value behind.
 fn unclean(mut result: ResourceResult, refusal: u32) -> ResourceResult {
     if result.refusal == refusal {
@@ -104,10 +96,10 @@ macro_rules! words {
 
 pub const WRONG_BY_NUMBER: [(&str, ByNumber); 41] = [
     ("8 and 18", |image, number| {
-        exchanged(right_number(image, number), 8, 18)
+        exchanged(reference::resource_by_number(image, *number), 8, 18).into()
     }),
     ("18 and 20", |image, number| {
-        exchanged(right_number(image, number), 18, 20)
+        exchanged(reference::resource_by_number(image, *number), 18, 20).into()
     }),
     ("unclean 8", |image, number| {
         unclean(right_number(image, number), 8)
@@ -162,13 +154,23 @@ pub const WRONG_BY_NUMBER: [(&str, ByNumber); 41] = [
 
 pub const WRONG_BY_WORDS: [(&str, ByWords); 47] = [
     ("18 and 19", |image, words| {
-        exchanged(right_words(image, words), 18, 19)
+        exchanged(
+            reference::resource_by_words(image, words.0, words.1),
+            18,
+            19,
+        )
+        .into()
     }),
     ("19 and 20", |image, words| {
-        exchanged(right_words(image, words), 19, 20)
+        exchanged(
+            reference::resource_by_words(image, words.0, words.1),
+            19,
+            20,
+        )
+        .into()
     }),
     ("8 for 19", |image, words| {
-        exchanged(right_words(image, words), 8, 19)
+        exchanged(reference::resource_by_words(image, words.0, words.1), 8, 19).into()
     }),
     ("unclean 19", |image, words| {
         unclean(right_words(image, words), 19)

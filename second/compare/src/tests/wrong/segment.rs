@@ -1,5 +1,6 @@
 //! Segment queries that are wrong in one respect.
 
+use super::exchanged;
 use crate::calls::{Function, SegmentQuery};
 use crate::results::SegmentResult;
 
@@ -19,15 +20,6 @@ pub fn rare_start(image: &[u8], number: &u32) -> SegmentResult {
         result.start += 1;
     }
     result
-}
-
-/// Refusals 9 and 11 change places.
-fn exchanged(image: &[u8], number: &u32) -> SegmentResult {
-    match right(image, number) {
-        SegmentResult { refusal: 9, .. } => refused(11),
-        SegmentResult { refusal: 11, .. } => refused(9),
-        result => result,
-    }
 }
 
 /// Refusal 8 leaves a value behind.
@@ -52,7 +44,9 @@ pub fn refusing(_: &[u8], _: &u32) -> SegmentResult {
 type Query = fn(&[u8], &u32) -> SegmentResult;
 
 pub const WRONG: [(&str, Query); 4] = [
-    ("exchanged", exchanged),
+    ("9 and 11", |image, number| {
+        exchanged(reference::segment(image, *number), 9, 11).into()
+    }),
     ("unclean", unclean),
     ("low word", low_word),
     ("refusing", refusing),
