@@ -13,7 +13,7 @@ use native.Mathlib.Omega.{arith}
 use borrow.Author.Tests.{le-ltb}
 use Rattle.bundle.specs.declared.Bundle.{Bundle}
 use Rattle.entry.specs.declared.Slot.{Slot}
-use Rattle.lists.specs.Table.{Sound}
+use Rattle.tables.specs.Table.{Sound}
 use Rattle.entry.specs.Table.{tableOf, covers, slotOf, noSlot, slotIn, ordinalsIn}
 use Rattle.entry.specs.Covered.{Among}
 use Rattle.entry.proofs.Covers.{covered}

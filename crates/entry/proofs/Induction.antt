@@ -6,8 +6,8 @@ use mathlib.Core.List.{List, [], _∷_, _++_}
 use Prim.Native.Nat.{ℕ, _+_}
 use lib.ListN.{length}
 use Rattle.refusal.specs.declared.Refusal.the-variants.{EntryTableEnds}
-use Rattle.lists.specs.Table.{Next, Sound}
-use Rattle.lists.proofs.Induction as lists
+use Rattle.tables.specs.Table.{Next, Sound}
+use Rattle.tables.proofs.Induction as tables
 use Rattle.bundle.specs.declared.Bundle.{Bundle}
 use Rattle.bundle.specs.Bundle.{stepOf}
 use Rattle.bundle.proofs.Went.{Went}
@@ -22,4 +22,4 @@ module _ (table : List ℕ) (segments : ℕ) (P : ℕ → ℕ → List Bundle �
 
   pub sound-table : (bs : List Bundle) → tableOf table segments ≡ Sound bs → P 0 0 bs
   unfolding tableOf
-  sound-table bs e = lists.sound-table (bundleStep table segments) EntryTableEnds (λ (p : Place) (bs : List Bundle). P (p .at) (p .used) bs) (λ p q. none (p .at) (p .used)) step (length table) (record { at = 0; used = 0 }) bs e
+  sound-table bs e = tables.sound-table (bundleStep table segments) EntryTableEnds (λ (p : Place) (bs : List Bundle). P (p .at) (p .used) bs) (λ p q. none (p .at) (p .used)) step (length table) (record { at = 0; used = 0 }) bs e

@@ -22,7 +22,7 @@ use Rattle.entry.specs.declared.Slot.{Slot}
 use Rattle.bundle.specs.declared.Entry.{Entry}
 use Rattle.bundle.specs.declared.Answer.the-variants as answers
 use Rattle.bundle.specs.Bundle.{entryOf}
-use Rattle.lists.specs.Table.{Sound, Unsound}
+use Rattle.tables.specs.Table.{Sound, Unsound}
 use Rattle.entry.specs.Table.{EntryTable, tableOf, covers, slotOf, slotIn, noSlot}
 use Rattle.entry.specs.Ordinal.{tableBytes, inTable, ordinalIn, ordinalOf}
 use Rattle.entry.specs.Covered.{Among, Covered, entryIn, Resolves, IsCovered}

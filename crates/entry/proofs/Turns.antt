@@ -7,9 +7,9 @@ use native.Mathlib.Omega.{arith}
 use lib.ListN.{length}
 use Rattle.checks.proofs.Impossible.{never}
 use Rattle.refusal.specs.declared.Refusal.the-variants.{EntryTableEnds}
-use Rattle.lists.specs.Table as lists
-use Rattle.lists.specs.Table.{Next, Sound, Unsound, after, onStep}
-use Rattle.lists.proofs.Turns as lists-proofs
+use Rattle.tables.specs.Table as tables
+use Rattle.tables.specs.Table.{Next, Sound, Unsound, after, onStep}
+use Rattle.tables.proofs.Turns as tables-laws
 use Rattle.bundle.specs.declared.Bundle.{Bundle}
 use Rattle.bundle.specs.declared.Step as step
 use Rattle.bundle.specs.declared.Step.the-variants as steps
@@ -32,10 +32,10 @@ module _ (table : List ℕ) (segments : ℕ) where
 
   -- The table from a place on.
   abbrev pub tableAt : ℕ → ℕ → EntryTable
-  tableAt at used = lists.tableOf (bundleStep table segments) EntryTableEnds (length table) (record { at = at; used = used })
+  tableAt at used = tables.tableOf (bundleStep table segments) EntryTableEnds (length table) (record { at = at; used = used })
 
-  pub unrolled : (at used : ℕ) (s : step.Step) → stepOf table segments at used ≡ s → tableAt at used ≡ onStep (asStep s) Unsound (Sound []) (λ bs t. after bs (lists.tableOf (bundleStep table segments) EntryTableEnds (length table) t))
-  unrolled at used s e = lists-proofs.unrolled (bundleStep table segments) EntryTableEnds (λ (p : Place). p .at) (length table) on (record { at = at; used = used }) ∙ rw e
+  pub unrolled : (at used : ℕ) (s : step.Step) → stepOf table segments at used ≡ s → tableAt at used ≡ onStep (asStep s) Unsound (Sound []) (λ bs t. after bs (tables.tableOf (bundleStep table segments) EntryTableEnds (length table) t))
+  unrolled at used s e = tables-laws.unrolled (bundleStep table segments) EntryTableEnds (λ (p : Place). p .at) (length table) on (record { at = at; used = used }) ∙ rw e
 
   pub whole : tableOf table segments ≡ tableAt 0 0
   unfolding tableOf

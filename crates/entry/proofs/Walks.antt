@@ -10,7 +10,7 @@ use Rattle.entry.specs.declared.Found.{Found}
 use Rattle.entry.specs.declared.Walked.the-variants as walked
 use Rattle.bundle.specs.declared.Answer.the-variants.{Refused}
 use Rattle.bundle.specs.Bundle.{entryOf}
-use Rattle.lists.specs.Table.{Sound, Unsound}
+use Rattle.tables.specs.Table.{Sound, Unsound}
 use Rattle.entry.specs.Table.{EntryTable, walkOf, slotIn, ordinalsIn}
 use Rattle.entry.specs.Ordinal.{inTable}
 

@@ -11,7 +11,7 @@ use Rattle.bundle.specs.declared.Entry.{Entry}
 use Rattle.bundle.specs.declared.Answer.{Answer}
 use Rattle.bundle.specs.declared.Answer.the-variants.{Accepted}
 use Rattle.bundle.specs.Bundle.{entryOf}
-use Rattle.lists.specs.Table.{Sound}
+use Rattle.tables.specs.Table.{Sound}
 use Rattle.entry.specs.Table.{tableOf, slotOf}
 use Rattle.entry.specs.Ordinal.{tableBytes, ordinalOf}
 

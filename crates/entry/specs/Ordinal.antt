@@ -7,7 +7,7 @@ use Rattle.header.specs.declared.Header.{Header}
 use Rattle.bundle.specs.declared.Answer.{Answer}
 use Rattle.bundle.specs.declared.Answer.the-variants.{Refused}
 use Rattle.bundle.specs.Bundle.{entryOf}
-use Rattle.lists.specs.Table.{Sound, Unsound}
+use Rattle.tables.specs.Table.{Sound, Unsound}
 use Rattle.entry.specs.Table.{EntryTable, tableOf, slotIn}
 
 -- "04 entry table, 06 its bytes".

@@ -4,8 +4,8 @@ use mathlib.Core.Bool.{Bool, cond, _&&_}
 use mathlib.Core.List.{List, [], _∷_}
 use lib.ListN.{length}
 use lib.Dec.{ltb, leb}
-use Rattle.lists.specs.Table as lists
-use Rattle.lists.specs.Table.{Step, Next, End, Stop, Table, Sound, Unsound}
+use Rattle.tables.specs.Table as tables
+use Rattle.tables.specs.Table.{Step, Next, End, Stop, Table, Sound, Unsound}
 use Rattle.refusal.specs.declared.Refusal.{Refusal}
 use Rattle.refusal.specs.declared.Refusal.the-variants.{EntryTableEnds}
 use Rattle.bundle.specs.declared.Kind.the-variants.{Null}
@@ -41,7 +41,7 @@ EntryTable = Table Bundle Refusal
 
 -- A whole table, in a module of this many segments. It starts at its first byte, with no ordinal before it.
 unfoldable pub tableOf : List ℕ → ℕ → EntryTable
-tableOf table segments = lists.tableOf (bundleStep table segments) EntryTableEnds (length table) (record { at = 0; used = 0 })
+tableOf table segments = tables.tableOf (bundleStep table segments) EntryTableEnds (length table) (record { at = 0; used = 0 })
 
 -- "Ordinals count from 1."
 abbrev pub covers : Bundle → ℕ → Bool

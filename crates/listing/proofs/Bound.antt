@@ -19,7 +19,7 @@ use Rattle.bundle.specs.declared.Kind.the-variants.{Null, Movable, Fixed}
 use Rattle.bundle.specs.declared.Bundle.{Bundle}
 use Rattle.bundle.specs.declared.Entry.{Entry}
 use Rattle.bundle.specs.Bundle.{widthOf, entryOf}
-use Rattle.lists.specs.Table.{Sound, Unsound}
+use Rattle.tables.specs.Table.{Sound, Unsound}
 use Rattle.entry.specs.Table.{EntryTable, tableOf, ordinalsIn}
 use Rattle.entry.specs.Ordinal.{tableBytes}
 use Rattle.bundle.proofs.Went.{Went}

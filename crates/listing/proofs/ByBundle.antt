@@ -11,7 +11,7 @@ use lib.ListN.{drop}
 use Rattle.bundle.specs.declared.Bundle.{Bundle}
 use Rattle.bundle.specs.declared.Answer.{Answer}
 use Rattle.bundle.specs.Bundle.{widthOf, entryOf}
-use Rattle.lists.specs.Table.{Sound}
+use Rattle.tables.specs.Table.{Sound}
 use Rattle.entry.specs.Table.{tableOf, ordinalsIn}
 use Rattle.entry.specs.Ordinal.{inTable}
 use Rattle.entry.specs.Covered.{Among}

@@ -4,7 +4,7 @@ use mathlib.Core.Path.{refl}
 use Rattle.le.specs.Number.{number}
 use Rattle.header.specs.Header.{headerOf, headerChecks, tablesOf, leaves, onHeader, lacks}
 use Rattle.bundle.specs.Bundle.{kindOf, unsoundFrom, bundleAt, bundleChecks, stepOf}
-use Rattle.lists.specs.Table as lists
+use Rattle.tables.specs.Table as tables
 use Rattle.entry.specs.Table.{tableOf, slotIn, ordinalsIn}
 use Rattle.entry.specs.Ordinal.{ordinalIn}
 use Rattle.listing.specs.Text.{digitOf, digitsOf, decimalWidth}
@@ -12,5 +12,5 @@ use Rattle.listing.specs.Listing.{lineOf, linesFrom, entriesOf, listingO
 use Rattle.listing.specs.Examples.{Examples}
 
 pub hold : Examples
-unfolding number headerOf headerChecks tablesOf leaves onHeader lacks kindOf unsoundFrom bundleAt bundleChecks stepOf lists.tableFrom lists.tableOf tableOf slotIn ordinalsIn ordinalIn digitOf digitsOf decimalWidth lineOf linesFrom entriesOf listingOf
+unfolding number headerOf headerChecks tablesOf leaves onHeader lacks kindOf unsoundFrom bundleAt bundleChecks stepOf tables.tableFrom tables.tableOf tableOf slotIn ordinalsIn ordinalIn digitOf digitsOf decimalWidth lineOf linesFrom entriesOf listingOf
 hold = (refl, refl, refl)

@@ -8,7 +8,7 @@ use Rattle.checks.proofs.Impossible.{never}
 use Rattle.refusal.specs.declared.Refusal.{Refusal}
 use Rattle.entry.specs.declared.Found.{Found}
 use Rattle.entry.specs.declared.Walked.the-variants as walked
-use Rattle.lists.specs.Table.{Sound, Unsound}
+use Rattle.tables.specs.Table.{Sound, Unsound}
 use Rattle.entry.specs.Table.{EntryTable, tableOf, walkOf, ordinalsIn}
 use Rattle.listing.specs.Text.{ascii}
 use Rattle.listing.specs.Listing.{refusedOf, countOf, tableListing}

@@ -6,7 +6,7 @@ use lib.ListN.{drop}
 use Rattle.bundle.specs.declared.Kind.{Kind}
 use Rattle.bundle.specs.declared.Bundle.{Bundle}
 use Rattle.bundle.specs.Bundle.{widthOf, entryOf}
-use Rattle.lists.specs.Table.{Sound, Unsound}
+use Rattle.tables.specs.Table.{Sound, Unsound}
 use Rattle.entry.specs.Table.{EntryTable}
 use Rattle.listing.specs.Listing.{answerLine}
 

@@ -11,7 +11,7 @@ use Rattle.header.specs.declared.Header.{Header}
 use Rattle.bundle.specs.declared.Entry.{Entry}
 use Rattle.bundle.specs.declared.Answer.{Answer}
 use Rattle.bundle.specs.declared.Answer.the-variants.{Accepted, Refused}
-use Rattle.lists.specs.Table.{Sound, Unsound}
+use Rattle.tables.specs.Table.{Sound, Unsound}
 use Rattle.entry.specs.Table.{EntryTable, tableOf, ordinalsIn}
 use Rattle.entry.specs.Ordinal.{tableBytes, inTable}
 use Rattle.listing.specs.Text.{ascii, decimalOf, hexOf}

@@ -14,9 +14,9 @@ use lib.ListN.{length, drop}
 use Rattle.checks.proofs.Impossible.{never}
 use Rattle.refusal.specs.declared.Refusal.{Refusal}
 use Rattle.refusal.specs.declared.Refusal.the-variants.{NoSuchNumber, NoSuchName, ResidentNames, NonresidentNames}
-use Rattle.lists.specs.Table.{Table, Sound, Unsound, onTable}
-use Rattle.lists.specs.Query.{firstOf, numbered}
-use Rattle.lists.proofs.Query.{all-map, Numbered, numbered-append, first-append, first-through, same-tests, below, numbered-first}
+use Rattle.tables.specs.Table.{Table, Sound, Unsound, onTable}
+use Rattle.tables.specs.Query.{firstOf, numbered}
+use Rattle.tables.proofs.Query.{all-map, Numbered, numbered-append, first-append, first-through, same-tests, below, numbered-first}
 use Rattle.header.specs.Header.{headerOf}
 use Rattle.header.specs.declared.Header.{Header}
 use Rattle.header.proofs.Onward.{onward}

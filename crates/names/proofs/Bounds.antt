@@ -17,9 +17,9 @@ use Rattle.le.specs.Number.{byteAt}
 use Rattle.checks.proofs.Impossible.{never}
 use Rattle.refusal.specs.declared.Refusal.{Refusal}
 use Rattle.refusal.specs.declared.Refusal.the-variants.{NoSuchNumber, NoSuchName, ResidentNames, NonresidentNames}
-use Rattle.lists.specs.Table.{Table, Sound, Unsound, onTable}
-use Rattle.lists.specs.Query.{firstOf, numbered}
-use Rattle.lists.proofs.Query.{All, all-map, all-append, Numbered, first-holds, numbered-first, numbered-append}
+use Rattle.tables.specs.Table.{Table, Sound, Unsound, onTable}
+use Rattle.tables.specs.Query.{firstOf, numbered}
+use Rattle.tables.proofs.Query.{All, all-map, all-append, Numbered, first-holds, numbered-first, numbered-append}
 use Rattle.header.specs.Header.{headerOf, onHeader}
 use Rattle.header.specs.declared.Header.{Header}
 use Rattle.header.specs.declared.Answer as header

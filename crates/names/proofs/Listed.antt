@@ -15,8 +15,8 @@ use Rattle.le.specs.Number.{byteAt}
 use Rattle.refusal.specs.declared.Refusal.{Refusal}
 use Rattle.checks.specs.Checks.{_⇒_, decide}
 use Rattle.checks.proofs.Impossible.{never}
-use Rattle.lists.specs.Table.{Step, Next, End, Stop, Sound, Unsound, after, onStep, tableOf}
-use Rattle.lists.proofs.Turns.{unrolled}
+use Rattle.tables.specs.Table.{Step, Next, End, Stop, Sound, Unsound, after, onStep, tableOf}
+use Rattle.tables.proofs.Turns.{unrolled}
 use Rattle.names.specs.declared.Name.{Name}
 use Rattle.names.specs.Names.{Place, nameAt, behind, stepOf, listFrom}
 

@@ -10,9 +10,9 @@ use native.Mathlib.Omega.{arith}
 use lib.ListN.{length}
 use Rattle.le.specs.Number.{byteAt}
 use Rattle.refusal.specs.declared.Refusal.{Refusal}
-use Rattle.lists.specs.Table.{Next, Sound}
-use Rattle.lists.proofs.Query.{All, all-map, Numbered}
-use Rattle.lists.proofs.Induction.{sound-table}
+use Rattle.tables.specs.Table.{Next, Sound}
+use Rattle.tables.proofs.Query.{All, all-map, Numbered}
+use Rattle.tables.proofs.Induction.{sound-table}
 use Rattle.names.specs.declared.Name.{Name}
 use Rattle.names.specs.Names.{Place, nameAt, behind, stepOf, listFrom}
 use Rattle.names.proofs.Listed.{went, end-inside}

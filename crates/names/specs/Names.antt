@@ -8,8 +8,8 @@ use Rattle.le.specs.Number.{byteAt, wordAt}
 use Rattle.refusal.specs.declared.Refusal.{Refusal}
 use Rattle.refusal.specs.declared.Refusal.the-variants.{NoSuchNumber, ResidentNames, NonresidentNames, NoSuchName}
 use Rattle.checks.specs.Checks.{_⇒_, decide}
-use Rattle.lists.specs.Table.{Step, Next, End, Stop, Table, Sound, onTable, tableOf}
-use Rattle.lists.specs.Query.{numbered, firstOf}
+use Rattle.tables.specs.Table.{Step, Next, End, Stop, Table, Sound, onTable, tableOf}
+use Rattle.tables.specs.Query.{numbered, firstOf}
 use Rattle.header.specs.Header.{headerOf, onHeader}
 use Rattle.header.specs.declared.Header.{Header}
 use Rattle.names.specs.Text.{same}

@@ -16,10 +16,10 @@ use Rattle.le.specs.Number.{wordAt}
 use Rattle.checks.proofs.Impossible.{never}
 use Rattle.refusal.specs.declared.Refusal.{Refusal}
 use Rattle.refusal.specs.declared.Refusal.the-variants.{NoSuchNumber, ResourceTable, ResourceShift, NoSuchResource}
-use Rattle.lists.specs.Table.{Next, Table, Sound, Unsound, onTable}
-use Rattle.lists.specs.Query.{firstOf, numbered}
-use Rattle.lists.proofs.Query.{Numbered, numbered-append, first-through, numbered-first}
-use Rattle.lists.proofs.Induction.{sound-table}
+use Rattle.tables.specs.Table.{Next, Table, Sound, Unsound, onTable}
+use Rattle.tables.specs.Query.{firstOf, numbered}
+use Rattle.tables.proofs.Query.{Numbered, numbered-append, first-through, numbered-first}
+use Rattle.tables.proofs.Induction.{sound-table}
 use Rattle.header.specs.Header.{headerOf}
 use Rattle.header.specs.declared.Header.{Header}
 use Rattle.header.proofs.Onward.{onward}

@@ -16,8 +16,8 @@ use Rattle.refusal.specs.declared.Refusal.{Refusal}
 use Rattle.refusal.specs.declared.Refusal.the-variants.{ResourceTable}
 use Rattle.checks.proofs.Impossible.{never}
 use Rattle.checks.specs.Checks.{_⇒_, decide}
-use Rattle.lists.specs.Table.{Step, Next, End, Stop, Table, Sound, Unsound, after, onStep, tableOf}
-use Rattle.lists.proofs.Turns.{unrolled}
+use Rattle.tables.specs.Table.{Step, Next, End, Stop, Table, Sound, Unsound, after, onStep, tableOf}
+use Rattle.tables.proofs.Turns.{unrolled}
 use Rattle.resources.specs.declared.Resource.{Resource}
 use Rattle.resources.specs.declared.block.Block.{Block}
 use Rattle.resources.specs.Resource.{Place, stepOf, blockAt, behind, blockResources}

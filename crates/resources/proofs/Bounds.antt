@@ -13,9 +13,9 @@ use Rattle.refusal.specs.declared.Refusal.{Refusal}
 use Rattle.refusal.specs.declared.Refusal.the-variants.{NoSuchNumber, NoSuchResource, ResourceOutside}
 use Rattle.checks.specs.Checks.{_⇒_, decide}
 use Rattle.checks.proofs.Impossible.{never}
-use Rattle.lists.specs.Table.{Table, Sound, Unsound, onTable}
-use Rattle.lists.specs.Query.{numbered, firstOf}
-use Rattle.lists.proofs.Query.{all-of, first-holds, numbered-holds}
+use Rattle.tables.specs.Table.{Table, Sound, Unsound, onTable}
+use Rattle.tables.specs.Query.{numbered, firstOf}
+use Rattle.tables.proofs.Query.{all-of, first-holds, numbered-holds}
 use Rattle.header.specs.Header.{headerOf, onHeader}
 use Rattle.header.specs.declared.Answer as header
 use Rattle.header.specs.declared.Answer.the-variants as header-answer

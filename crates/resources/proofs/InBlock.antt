@@ -14,8 +14,8 @@ use native.Mathlib.Omega.{arith}
 use borrow.Author.Tests.{eq-eqb, ne-eqb}
 use lib.Dec.{eqb}
 use lib.ListN.{length, getD}
-use Rattle.lists.specs.Query.{firstOf, numbered}
-use Rattle.lists.proofs.Query.{All, all-map, Numbered, same-tests, none-taken, below, counted, numbered-lacked, numbered-has}
+use Rattle.tables.specs.Query.{firstOf, numbered}
+use Rattle.tables.proofs.Query.{All, all-map, Numbered, same-tests, none-taken, below, counted, numbered-lacked, numbered-has}
 use Rattle.resources.specs.declared.Resource.{Resource}
 use Rattle.resources.specs.declared.block.Block.{Block}
 use Rattle.resources.specs.declared.Match.{Match}

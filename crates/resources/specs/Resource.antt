@@ -8,8 +8,8 @@ use Rattle.le.specs.Number.{wordAt}
 use Rattle.refusal.specs.declared.Refusal.{Refusal}
 use Rattle.refusal.specs.declared.Refusal.the-variants.{NoSuchNumber, ResourceTable, ResourceShift, NoSuchResource, ResourceOutside}
 use Rattle.checks.specs.Checks.{_⇒_, decide}
-use Rattle.lists.specs.Table.{Step, Next, End, Stop, Table, Sound, Unsound, onTable, tableOf}
-use Rattle.lists.specs.Query.{numbered, firstOf}
+use Rattle.tables.specs.Table.{Step, Next, End, Stop, Table, Sound, Unsound, onTable, tableOf}
+use Rattle.tables.specs.Query.{numbered, firstOf}
 use Rattle.header.specs.Header.{headerOf, onHeader}
 use Rattle.header.specs.declared.Header.{Header}
 use Rattle.resources.specs.declared.Resource.{Resource}

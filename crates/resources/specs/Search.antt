@@ -6,8 +6,8 @@ use mathlib.Core.List.{List}
 use lib.ListN.{length}
 use lib.Dec.{eqb}
 use Rattle.refusal.specs.declared.Refusal.{Refusal}
-use Rattle.lists.specs.Table.{Table, onTable}
-use Rattle.lists.specs.Query.{firstOf}
+use Rattle.tables.specs.Table.{Table, onTable}
+use Rattle.tables.specs.Query.{firstOf}
 use Rattle.header.specs.Header.{headerOf, onHeader}
 use Rattle.header.specs.declared.Header.{Header}
 use Rattle.resources.specs.declared.Resource.{Resource}

@@ -4,7 +4,7 @@ use crate::Request;
 use crate::Resource;
 ghost use mathlib.Core.Path.{_≡_};
 ghost use Prim.Native.Nat.{_*_, _≤_, _<_, _^_};
-ghost use Rattle.lists.specs.Query.{firstOf};
+ghost use Rattle.tables.specs.Query.{firstOf};
 ghost use Rattle.resources.specs.Resource.{resourceAt, blockResources, hasWords, highBit};
 ghost use Rattle.resources.specs.Search.{Whole, hasNumber, hasId, orElse, wanted};
 

@@ -7,7 +7,7 @@ use native.Mathlib.Omega.{arith}
 use denote.Ref.{now}
 use lib.ListN.{length}
 use Rattle.refusal.specs.declared.Refusal.the-variants.{ResidentNames}
-use Rattle.lists.specs.Table.{Sound}
+use Rattle.tables.specs.Table.{Sound}
 use Rattle.names.specs.declared.Name.{Name}
 use Rattle.names.specs.declared.Progress.{Progress}
 use Rattle.names.specs.declared.Match.the-variants.{Nothing}

@@ -7,8 +7,8 @@ use borrow.Author.Tests.{eq-eqb, ne-eqb}
 use denote.Ref.{now}
 use lib.Dec.{eqb}
 use Rattle.refusal.specs.declared.Refusal.the-variants.{NonresidentNames}
-use Rattle.lists.specs.Query.{firstOf}
-use Rattle.lists.specs.Table.{onTable}
+use Rattle.tables.specs.Query.{firstOf}
+use Rattle.tables.specs.Table.{onTable}
 use Rattle.names.specs.declared.Progress.{Progress}
 use Rattle.names.specs.declared.Answer.the-variants.{Refused}
 use Rattle.names.specs.Names.{listFrom}

@@ -6,7 +6,7 @@ use native.Mathlib.Omega.{arith}
 use denote.Ref.{now}
 use lib.ListN.{length}
 use Rattle.le.specs.Number.{wordAt}
-use Rattle.lists.specs.Query.{firstOf}
+use Rattle.tables.specs.Query.{firstOf}
 use Rattle.resources.specs.Resource.{blocksFrom}
 use Rattle.resources.specs.Search.{answerIn}
 use Rattle.resources.proofs.Answers.{answerFrom, table-none, table-past, table-shift, table-blocks, sound-answer, unsound-answer}

@@ -13,7 +13,7 @@ use Rattle.bundle.specs.declared.Bundle.{Bundle}
 use Rattle.entry.specs.declared.Slot.{Slot}
 use Rattle.entry.specs.declared.Walked.{Walked}
 use Rattle.entry.specs.declared.Walked.the-variants as walked
-use Rattle.lists.specs.Table.{Sound, Unsound, after}
+use Rattle.tables.specs.Table.{Sound, Unsound, after}
 use Rattle.entry.specs.Table.{EntryTable, tableOf, walkOf, ordinalsIn, covers, slotOf, noSlot}
 use Rattle.bundle.proofs.Went.{Went, went}
 use Rattle.entry.proofs.Follow.{sound-follow, lastIn, last-is-first}

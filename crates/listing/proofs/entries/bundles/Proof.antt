@@ -11,7 +11,7 @@ use denote.Ref.{now}
 use lib.ListN.{length}
 use Rattle.checks.proofs.Impossible.{never}
 use Rattle.bundle.specs.declared.Bundle.{Bundle}
-use Rattle.lists.specs.Table.{Sound, Unsound, after}
+use Rattle.tables.specs.Table.{Sound, Unsound, after}
 use Rattle.entry.specs.Table.{EntryTable, tableOf}
 use Rattle.bundle.proofs.Went.{Went, went}
 use Rattle.entry.proofs.Turns.{tableAt, unrolled, whole}

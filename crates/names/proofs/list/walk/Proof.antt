@@ -11,8 +11,8 @@ use denote.Ref.{now}
 use lib.ListN.{length}
 use Rattle.le.specs.Number.{byteAt, wordAt}
 use Rattle.refusal.specs.declared.Refusal.{Refusal}
-use Rattle.lists.specs.Table.{Table, Sound, Unsound, after, onTable}
-use Rattle.lists.specs.Query.{firstOf}
+use Rattle.tables.specs.Table.{Table, Sound, Unsound, after, onTable}
+use Rattle.tables.specs.Query.{firstOf}
 use Rattle.names.specs.declared.Name.{Name}
 use Rattle.names.specs.declared.Request.{Request}
 use Rattle.names.specs.declared.Match.{Match}

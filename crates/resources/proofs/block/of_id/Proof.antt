@@ -8,7 +8,7 @@ use borrow.Author.Needs.{needs}
 use borrow.Author.Tests.{eq-eqb, ne-eqb}
 use denote.Ref.{now}
 use lib.Dec.{eqb}
-use Rattle.lists.specs.Query.{firstOf}
+use Rattle.tables.specs.Query.{firstOf}
 use Rattle.resources.specs.declared.Match.the-variants.{Found}
 use Rattle.resources.specs.Resource.{resourceAt, resourcesFrom}
 use Rattle.resources.proofs.InBlock.{idFrom, one-more}

@@ -10,9 +10,9 @@ use denote.Ref.{now}
 use lib.ListN.{length}
 use Rattle.le.specs.Number.{wordAt}
 use Rattle.refusal.specs.declared.Refusal.{Refusal}
-use Rattle.lists.specs.Table.{Table, Sound, Unsound, after, onTable}
-use Rattle.lists.specs.Query.{firstOf}
-use Rattle.lists.proofs.Query.{first-append, first-through}
+use Rattle.tables.specs.Table.{Table, Sound, Unsound, after, onTable}
+use Rattle.tables.specs.Query.{firstOf}
+use Rattle.tables.proofs.Query.{first-append, first-through}
 use Rattle.resources.specs.declared.Resource.{Resource}
 use Rattle.resources.specs.declared.block.Block.{Block}
 use Rattle.resources.specs.declared.Request.{Request}

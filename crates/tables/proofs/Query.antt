@@ -21,7 +21,7 @@ use native.Mathlib.Omega.{arith}
 use borrow.Author.Tests.{eq-eqb, ne-eqb, eqb-true, eqb-false}
 use lib.Dec.{eqb}
 use lib.ListN.{length, getD}
-use Rattle.lists.specs.Query.{numbered, firstOf}
+use Rattle.tables.specs.Query.{numbered, firstOf}
 
 -- That something holds of all elements of a list.
 abbrev pub All : {A : Type 0} → (A → Type 0) → List A → Type 0

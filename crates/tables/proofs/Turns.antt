@@ -5,7 +5,7 @@ use mathlib.Core.Path.{_≡_, refl, ap}
 use mathlib.Core.List.{List, []}
 use Prim.Native.Nat.{ℕ, zero, suc, _+_, _≤_, _<_}
 use native.Mathlib.Omega.{arith}
-use Rattle.lists.specs.Table.{Step, Next, End, Stop, Sound, Unsound, after, onStep, tableFrom, tableOf}
+use Rattle.tables.specs.Table.{Step, Next, End, Stop, Sound, Unsound, after, onStep, tableFrom, tableOf}
 
 -- Each step goes on, and not past the limit.
 module _ {S A W : Type 0} (step : S → Step S A W) (late : W) (place : S → ℕ) (limit : ℕ) (on : (s : S) (xs : List A) (t : S) → step s ≡ Next xs t → (place s < place t) × (place t ≤ limit)) where

@@ -5,7 +5,7 @@ use mathlib.Core.Path.{_≡_, refl}
 use mathlib.Core.List.{List, [], _++_}
 use Prim.Native.Nat.{ℕ, zero, suc}
 use Rattle.checks.proofs.Impossible.{never}
-use Rattle.lists.specs.Table.{Step, Next, End, Stop, Table, Sound, Unsound, after, tableFrom, tableOf}
+use Rattle.tables.specs.Table.{Step, Next, End, Stop, Table, Sound, Unsound, after, tableFrom, tableOf}
 
 module _ {S A W : Type 0} (step : S → Step S A W) (late : W) (P : S → List A → Type 0) (none : (s : S) → step s ≡ End → P s []) (more : (s : S) (xs : List A) (t : S) (ys : List A) → step s ≡ Next xs t → P t ys → P s (xs ++ ys)) where
   behind : (s : S) (xs : List A) (t : S) (rest : Table A W) (all : List A) → step s ≡ Next xs t → ((ys : List A) → rest ≡ Sound ys → P t ys) → after xs rest ≡ Sound all → P s all
