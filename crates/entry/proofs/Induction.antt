@@ -6,12 +6,12 @@ use mathlib.Core.List.{List, [], _∷_, _++_}
 use Prim.Native.Nat.{ℕ, _+_}
 use lib.ListN.{length}
 use Rattle.refusal.specs.declared.Refusal.the-variants.{EntryTableEnds}
-use Rattle.tables.specs.Table.{Next, Sound}
+use Rattle.tables.specs.Table.{Place, Next, Sound}
 use Rattle.tables.proofs.Induction as tables
 use Rattle.bundle.specs.declared.Bundle.{Bundle}
 use Rattle.bundle.specs.Bundle.{stepOf}
 use Rattle.bundle.proofs.Went.{Went}
-use Rattle.entry.specs.Table.{Place, bundleStep, tableOf}
+use Rattle.entry.specs.Table.{bundleStep, tableOf}
 use Rattle.entry.proofs.Turns.{goes-on}
 
 module _ (table : List ℕ) (segments : ℕ) (P : ℕ → ℕ → List Bundle → Type 0) (none : (at used : ℕ) → P at used []) (more : (at used : ℕ) (b : Bundle) (bs : List Bundle) → Went table at used b → P (b .end) (b .used + b .count) bs → P at used (b ∷ bs)) where

@@ -8,14 +8,14 @@ use lib.ListN.{length}
 use Rattle.checks.proofs.Impossible.{never}
 use Rattle.refusal.specs.declared.Refusal.the-variants.{EntryTableEnds}
 use Rattle.tables.specs.Table as tables
-use Rattle.tables.specs.Table.{Next, Sound, Unsound, after, onStep}
+use Rattle.tables.specs.Table.{Place, Next, Sound, Unsound, after, onStep}
 use Rattle.tables.proofs.Turns as tables-laws
 use Rattle.bundle.specs.declared.Bundle.{Bundle}
 use Rattle.bundle.specs.declared.Step as step
 use Rattle.bundle.specs.declared.Step.the-variants as steps
 use Rattle.bundle.specs.Bundle.{stepOf}
 use Rattle.bundle.proofs.Went.{Went, went}
-use Rattle.entry.specs.Table.{Place, behind, asStep, bundleStep, EntryTable, tableOf}
+use Rattle.entry.specs.Table.{behind, asStep, bundleStep, EntryTable, tableOf}
 
 module _ (table : List ℕ) (segments : ℕ) where
   -- A step that goes on does so over a bundle that passed its checks.
@@ -35,7 +35,7 @@ module _ (table : List ℕ) (segments : ℕ) where
   tableAt at used = tables.tableOf (bundleStep table segments) EntryTableEnds (length table) (record { at = at; used = used })
 
   pub unrolled : (at used : ℕ) (s : step.Step) → stepOf table segments at used ≡ s → tableAt at used ≡ onStep (asStep s) Unsound (Sound []) (λ bs t. after bs (tables.tableOf (bundleStep table segments) EntryTableEnds (length table) t))
-  unrolled at used s e = tables-laws.unrolled (bundleStep table segments) EntryTableEnds (λ (p : Place). p .at) (length table) on (record { at = at; used = used }) ∙ rw e
+  unrolled at used s e = tables-laws.unrolled (bundleStep table segments) EntryTableEnds (length table) on (record { at = at; used = used }) ∙ rw e
 
   pub whole : tableOf table segments ≡ tableAt 0 0
   unfolding tableOf

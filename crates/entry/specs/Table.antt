@@ -5,7 +5,7 @@ use mathlib.Core.List.{List, [], _∷_}
 use lib.ListN.{length}
 use lib.Dec.{ltb, leb}
 use Rattle.tables.specs.Table as tables
-use Rattle.tables.specs.Table.{Step, Next, End, Stop, Table, Sound, Unsound}
+use Rattle.tables.specs.Table.{Place, Step, Next, End, Stop, Table, Sound, Unsound}
 use Rattle.refusal.specs.declared.Refusal.{Refusal}
 use Rattle.refusal.specs.declared.Refusal.the-variants.{EntryTableEnds}
 use Rattle.bundle.specs.declared.Kind.the-variants.{Null}
@@ -17,22 +17,17 @@ use Rattle.entry.specs.declared.Walked as walk
 use Rattle.entry.specs.declared.Walked.the-variants as walks
 use Rattle.bundle.specs.Bundle.{widthOf, stepOf}
 
--- A place in the table: where it is, and how many ordinals come before it.
-pub record Place : Type 0 where
-  pub at : ℕ
-  pub used : ℕ
-
 -- The place behind a bundle.
 abbrev pub behind : Bundle → Place
 behind b = record { at = b .end; used = b .used + b .count }
 
 -- What stands at a place, as a step of the table.
-abbrev pub asStep : step.Step → Step Place Bundle Refusal
+abbrev pub asStep : step.Step → Step Bundle Refusal
 asStep (steps.Refused why) = Stop why
 asStep steps.End = End
 asStep (steps.Next b) = Next (b ∷ []) (behind b)
 
-abbrev pub bundleStep : List ℕ → ℕ → Place → Step Place Bundle Refusal
+abbrev pub bundleStep : List ℕ → ℕ → Place → Step Bundle Refusal
 bundleStep table segments p = asStep (stepOf table segments (p .at) (p .used))
 
 -- A table is sound, and then it is its bundles in their order, or it is refused.

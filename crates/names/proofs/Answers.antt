@@ -44,7 +44,7 @@ pub unsound-list : {B : Type 0} (image : List ℕ) (t : Table Name Refusal) (p :
 unsound-list image (Sound ns) p why asked name refuse go e = never cc
 unsound-list image (Unsound other) p why asked name refuse go e = let is : why ≡ other = cc in rw is
 
-pub next-few : (image : List ℕ) (limit : ℕ) (t : Table Name Refusal) (p q : Progress) (asked : Request) (name : List ℕ) → walkOf image t p asked name ≡ walked.Sound q → ((ns : List Name) → t ≡ Sound ns → 4 * length ns ≤ limit) → 4 * (q .next) ≤ 4 * (p .next) + limit
+pub next-few : (image : List ℕ) (limit : ℕ) (t : Table Name Refusal) (p q : Progress) (asked : Request) (name : List ℕ) → walkOf image t p asked name ≡ walked.Sound q → ((ns : List Name) → t ≡ Sound ns → 4 * length ns ≤ limit) → 4 * (q .used) ≤ 4 * (p .used) + limit
 next-few image limit (Sound ns) p q asked name e h =
     let is : q ≡ onwards image p asked name ns = cc in
     let size = h ns refl in
@@ -61,49 +61,52 @@ in-both test other none r n =
     let rest = firstOf other Found Nothing n in
     first-through Found (λ m. concluded (orElse m rest) none) test Nothing r ∙ ap (λ (a : Answer). firstOf test Accepted a r) (first-through Found (λ m. concluded m none) other Nothing n)
 
-pub nonresident-numbers : (image : List ℕ) (h : Header) (first : ℕ) (ns : List Name) → nonresidentOf image h first ≡ Sound ns → Numbered (λ (n : Name). n .number) first ns
-nonresident-numbers image h first ns e = go (eqb (h .nonresident .count) 0) e
+pub nonresident-numbers : (image : List ℕ) (h : Header) (used : ℕ) (ns : List Name) → nonresidentOf image h used ≡ Sound ns → Numbered (λ (n : Name). n .number) (suc used) ns
+nonresident-numbers image h used ns e = go (eqb (h .nonresident .count) 0) e
   where
-    go : (none : Bool) → cond none (Sound []) (listFrom image (h .nonresident .at + h .nonresident .count) NonresidentNames (h .nonresident .at) first) ≡ Sound ns → Numbered (λ (n : Name). n .number) first ns
+    go : (none : Bool) → cond none (Sound []) (listFrom image (h .nonresident .at + h .nonresident .count) NonresidentNames (h .nonresident .at) used) ≡ Sound ns → Numbered (λ (n : Name). n .number) (suc used) ns
     go true q = let is : ns ≡ [] = cc in rw is tt
-    go false q = numbers image (h .nonresident .at + h .nonresident .count) NonresidentNames (h .nonresident .at) first ns q
+    go false q = numbers image (h .nonresident .at + h .nonresident .count) NonresidentNames (h .nonresident .at) used ns q
 
 -- The answers from both lists, for a query that says the same of all sound lists.
-same-query : (image : List ℕ) (asked : Request) (name : List ℕ) (none : Refusal) (query : List Name → List Name → Answer) → ((r n : List Name) → Numbered (λ (n : Name). n .number) 1 r → Numbered (λ (n : Name). n .number) (1 + length r) n → concluded (orElse (firstOf (wanted image 1 asked name) Found Nothing r) (firstOf (wanted image (1 + length r) asked name) Found Nothing n)) none ≡ query r n) → answerOf image asked name none ≡ Rattle.names.specs.Names.asked image query
+same-query : (image : List ℕ) (asked : Request) (name : List ℕ) (none : Refusal) (query : List Name → List Name → Answer) → ((r n : List Name) → Numbered (λ (n : Name). n .number) 1 r → Numbered (λ (n : Name). n .number) (suc (length r)) n → concluded (orElse (firstOf (wanted image 1 asked name) Found Nothing r) (firstOf (wanted image (length r + 1) asked name) Found Nothing n)) none ≡ query r n) → answerOf image asked name none ≡ Rattle.names.specs.Names.asked image query
 unfolding answerOf answerIn answerBehind
 same-query image asked name none query same-answer =
-    onward (headerOf image) Refused (λ h. answerIn image h asked name none) (λ h. onTable (residentOf image h) Refused (λ r. onTable (nonresidentOf image h (1 + length r)) Refused (λ n. query r n))) (λ h. in-resident h (residentOf image h) refl)
+    onward (headerOf image) Refused (λ h. answerIn image h asked name none) (λ h. onTable (residentOf image h) Refused (λ r. onTable (nonresidentOf image h (length r)) Refused (λ n. query r n))) (λ h. in-resident h (residentOf image h) refl)
   where
-    start : Progress
-    start = record { next = 1; found = Nothing }
-
-    in-nonresident : (h : Header) (r : List Name) → Numbered (λ (n : Name). n .number) 1 r → (t : Table Name Refusal) → nonresidentOf image h (1 + length r) ≡ t → onTable t Refused (λ n. concluded (onwards image (onwards image (record { next = 1; found = Nothing }) asked name r) asked name n .found) none) ≡ onTable t Refused (λ n. query r n)
-    in-nonresident h r k (Sound n) e = same-answer r n k (nonresident-numbers image h (1 + length r) n e)
+    in-nonresident : (h : Header) (r : List Name) → Numbered (λ (n : Name). n .number) 1 r → (t : Table Name Refusal) → nonresidentOf image h (length r) ≡ t → onTable t Refused (λ n. concluded (orElse (firstOf (wanted image 1 asked name) Found Nothing r) (firstOf (wanted image (length r + 1) asked name) Found Nothing n)) none) ≡ onTable t Refused (λ n. query r n)
+    in-nonresident h r k (Sound n) e = same-answer r n k (nonresident-numbers image h (length r) n e)
     in-nonresident h r k (Unsound why) e = refl
 
-    in-resident : (h : Header) (t : Table Name Refusal) → residentOf image h ≡ t → onTable t Refused (λ r. answerBehind image h (onwards image (record { next = 1; found = Nothing }) asked name r) asked name none) ≡ onTable t Refused (λ r. onTable (nonresidentOf image h (1 + length r)) Refused (λ n. query r n))
-    in-resident h (Sound r) e = in-nonresident h r (numbers image (length image) ResidentNames (h .resident) 1 r e) (nonresidentOf image h (1 + length r)) refl
+    in-resident : (h : Header) (t : Table Name Refusal) → residentOf image h ≡ t → onTable t Refused (λ r. answerBehind image h (onwards image (record { used = 0; found = Nothing }) asked name r) asked name none) ≡ onTable t Refused (λ r. onTable (nonresidentOf image h (length r)) Refused (λ n. query r n))
+    in-resident h (Sound r) e =
+        let all : 0 + length r ≡ length r = omega arith in
+        ap (λ used. onTable (nonresidentOf image h used) Refused (λ n. concluded (orElse (firstOf (wanted image 1 asked name) Found Nothing r) (firstOf (wanted image (used + 1) asked name) Found Nothing n)) none)) all
+        ∙ in-nonresident h r (numbers image (length image) ResidentNames (h .resident) 0 r e) (nonresidentOf image h (length r)) refl
     in-resident h (Unsound why) e = refl
 
 pub by-number : (image : List ℕ) (number : ℕ) (name : List ℕ) → answerOf image (Number number) name NoSuchNumber ≡ nameByNumber image number
 unfolding nameByNumber
 by-number image number name = same-query image (Number number) name NoSuchNumber (λ r n. numbered number Accepted (Refused NoSuchNumber) (r ++ n)) go
   where
-    go : (r n : List Name) → Numbered (λ (n : Name). n .number) 1 r → Numbered (λ (n : Name). n .number) (1 + length r) n → concluded (orElse (firstOf (hasNumber number) Found Nothing r) (firstOf (hasNumber number) Found Nothing n)) NoSuchNumber ≡ numbered number Accepted (Refused NoSuchNumber) (r ++ n)
-    go r n k l = in-both (hasNumber number) (hasNumber number) NoSuchNumber r n ∙ sym (first-append Accepted (hasNumber number) (Refused NoSuchNumber) r n) ∙ numbered-first Accepted (λ (n : Name). n .number) number (Refused NoSuchNumber) (r ++ n) (numbered-append (λ (n : Name). n .number) 1 r n k l)
+    go : (r n : List Name) → Numbered (λ (n : Name). n .number) 1 r → Numbered (λ (n : Name). n .number) (suc (length r)) n → concluded (orElse (firstOf (hasNumber number) Found Nothing r) (firstOf (hasNumber number) Found Nothing n)) NoSuchNumber ≡ numbered number Accepted (Refused NoSuchNumber) (r ++ n)
+    go r n k l =
+        let behind : suc (length r) ≡ 1 + length r = omega arith in
+        in-both (hasNumber number) (hasNumber number) NoSuchNumber r n ∙ sym (first-append Accepted (hasNumber number) (Refused NoSuchNumber) r n) ∙ numbered-first Accepted (λ (n : Name). n .number) number (Refused NoSuchNumber) (r ++ n) (numbered-append (λ (n : Name). n .number) 1 r n k (rw behind at l))
 
 -- The first string of a list isn't found by its bytes.
-second-on : (image : List ℕ) (first : ℕ) (name : List ℕ) (none : Answer) (ns : List Name) → Numbered (λ (n : Name). n .number) first ns → firstOf (hasBytes image first name) Accepted none ns ≡ firstOf (λ n. same (textOf image n) name) Accepted none (drop 1 ns)
+second-on : (image : List ℕ) (used : ℕ) (name : List ℕ) (none : Answer) (ns : List Name) → Numbered (λ (n : Name). n .number) (suc used) ns → firstOf (hasBytes image (used + 1) name) Accepted none ns ≡ firstOf (λ n. same (textOf image n) name) Accepted none (drop 1 ns)
 unfolding firstOf
-second-on image first name none [] k = refl
-second-on image first name none (n ∷ ns) k =
-    let others = below Accepted (λ (n : Name). n .number) (suc first) first ns (k .1) (omega arith) in
-    rw (eq-eqb (n .number) first (k .0))
-    (same-tests Accepted (hasBytes image first name) (λ n. same (textOf image n) name) none ns (all-map (λ (n : Name). eqb (n .number) first ≡ false) (λ (n : Name). hasBytes image first name n ≡ same (textOf image n) name) (λ n e. rw e) ns others))
+second-on image used name none [] k = refl
+second-on image used name none (n ∷ ns) k =
+    let others = below Accepted (λ (n : Name). n .number) (suc (suc used)) (used + 1) ns (k .1) (omega arith) in
+    let mine : n .number ≡ used + 1 = omega (arith, k .0) in
+    rw (eq-eqb (n .number) (used + 1) mine)
+    (same-tests Accepted (hasBytes image (used + 1) name) (λ n. same (textOf image n) name) none ns (all-map (λ (n : Name). eqb (n .number) (used + 1) ≡ false) (λ (n : Name). hasBytes image (used + 1) name n ≡ same (textOf image n) name) (λ n e. rw e) ns others))
 
 pub by-bytes : (image : List ℕ) (name : List ℕ) → answerOf image Bytes name NoSuchName ≡ nameByBytes image name
 unfolding nameByBytes
 by-bytes image name = same-query image Bytes name NoSuchName (λ r n. firstOf (λ n. same (textOf image n) name) Accepted (Refused NoSuchName) (drop 1 r ++ drop 1 n)) go
   where
-    go : (r n : List Name) → Numbered (λ (n : Name). n .number) 1 r → Numbered (λ (n : Name). n .number) (1 + length r) n → concluded (orElse (firstOf (hasBytes image 1 name) Found Nothing r) (firstOf (hasBytes image (1 + length r) name) Found Nothing n)) NoSuchName ≡ firstOf (λ n. same (textOf image n) name) Accepted (Refused NoSuchName) (drop 1 r ++ drop 1 n)
-    go r n k l = in-both (hasBytes image 1 name) (hasBytes image (1 + length r) name) NoSuchName r n ∙ ap (λ (a : Answer). firstOf (hasBytes image 1 name) Accepted a r) (second-on image (1 + length r) name (Refused NoSuchName) n l) ∙ second-on image 1 name (firstOf (λ n. same (textOf image n) name) Accepted (Refused NoSuchName) (drop 1 n)) r k ∙ sym (first-append Accepted (λ n. same (textOf image n) name) (Refused NoSuchName) (drop 1 r) (drop 1 n))
+    go : (r n : List Name) → Numbered (λ (n : Name). n .number) 1 r → Numbered (λ (n : Name). n .number) (suc (length r)) n → concluded (orElse (firstOf (hasBytes image 1 name) Found Nothing r) (firstOf (hasBytes image (length r + 1) name) Found Nothing n)) NoSuchName ≡ firstOf (λ n. same (textOf image n) name) Accepted (Refused NoSuchName) (drop 1 r ++ drop 1 n)
+    go r n k l = in-both (hasBytes image 1 name) (hasBytes image (length r + 1) name) NoSuchName r n ∙ ap (λ (a : Answer). firstOf (hasBytes image 1 name) Accepted a r) (second-on image (length r) name (Refused NoSuchName) n l) ∙ second-on image 0 name (firstOf (λ n. same (textOf image n) name) Accepted (Refused NoSuchName) (drop 1 n)) r k ∙ sym (first-append Accepted (λ n. same (textOf image n) name) (Refused NoSuchName) (drop 1 r) (drop 1 n))

@@ -7,7 +7,7 @@
 use mathlib.Core.Path.{_≡_, refl, sym, _∙_, ap}
 use mathlib.Core.Bool.{Bool, true, false, cond}
 use mathlib.Core.List.{List, [], _∷_, _++_}
-use Prim.Native.Nat.{ℕ, _+_, _-_, _≤_, _<_}
+use Prim.Native.Nat.{ℕ, suc, _+_, _-_, _≤_, _<_}
 use native.Mathlib.Omega.{arith}
 use borrow.Author.Tests.{eqb-true, eqb-false}
 use lib.Dec.{eqb}
@@ -41,43 +41,43 @@ record Lists (image : List ℕ) (resident nonresident : List Name) : Type 0 wher
   pub resident-inside : All (InImage image) resident
   pub nonresident-inside : All (InImage image) nonresident
   pub resident-numbers : Numbered (λ (n : Name). n .number) 1 resident
-  pub nonresident-numbers : Numbered (λ (n : Name). n .number) (1 + length resident) nonresident
+  pub nonresident-numbers : Numbered (λ (n : Name). n .number) (suc (length resident)) nonresident
 
 module _ (image : List ℕ) (h : Header) (inside : Inside image h) (r : List Name) (re : residentOf image h ≡ Sound r) where
   in-resident : All (InImage image) r
-  in-resident = all-map (Bounded image (length image) (record { at = h .resident; number = 1 })) (InImage image) (λ n b. record { some = b .some; length-byte = b .length-byte; inside = b .fits; size = inside .size; number = omega (arith, b .number, b .fits, inside .size) }) r (bounded image (length image) ResidentNames (h .resident) 1 r re)
+  in-resident = all-map (Bounded image (length image) (record { at = h .resident; used = 0 })) (InImage image) (λ n b. record { some = b .some; length-byte = b .length-byte; inside = b .fits; size = inside .size; number = omega (arith, b .number, b .fits, inside .size) }) r (bounded image (length image) ResidentNames (h .resident) 0 r re)
 
-  in-nonresident : (n : List Name) → nonresidentOf image h (1 + length r) ≡ Sound n → All (InImage image) n
+  in-nonresident : (n : List Name) → nonresidentOf image h (length r) ≡ Sound n → All (InImage image) n
   in-nonresident n e = go (eqb (h .nonresident .count) 0) refl e
     where
-      go : (none : Bool) → eqb (h .nonresident .count) 0 ≡ none → cond none (Sound []) (listFrom image (h .nonresident .at + h .nonresident .count) NonresidentNames (h .nonresident .at) (1 + length r)) ≡ Sound n → All (InImage image) n
+      go : (none : Bool) → eqb (h .nonresident .count) 0 ≡ none → cond none (Sound []) (listFrom image (h .nonresident .at + h .nonresident .count) NonresidentNames (h .nonresident .at) (length r)) ≡ Sound n → All (InImage image) n
       go true q z = let is : n ≡ [] = cc in rw is tt
       go false q z =
           let there : h .nonresident .count ≡ 0 → ⊥ = eqb-false _ _ q in
           let some : 0 < h .nonresident .count = omega (arith, there) in
           let limit = inside .nonresident some in
-          let before = few image (length image) ResidentNames (h .resident) 1 r re in
-          all-map (Bounded image (h .nonresident .at + h .nonresident .count) (record { at = h .nonresident .at; number = 1 + length r })) (InImage image) (λ x b. record { some = b .some; length-byte = b .length-byte; inside = omega (arith, b .fits, limit); size = inside .size; number = omega (arith, b .number, b .fits, inside .size, limit, before) }) n (bounded image (h .nonresident .at + h .nonresident .count) NonresidentNames (h .nonresident .at) (1 + length r) n z)
+          let before = few image (length image) ResidentNames (h .resident) 0 r re in
+          all-map (Bounded image (h .nonresident .at + h .nonresident .count) (record { at = h .nonresident .at; used = length r })) (InImage image) (λ x b. record { some = b .some; length-byte = b .length-byte; inside = omega (arith, b .fits, limit); size = inside .size; number = omega (arith, b .number, b .fits, inside .size, limit, before) }) n (bounded image (h .nonresident .at + h .nonresident .count) NonresidentNames (h .nonresident .at) (length r) n z)
 
-  both : (n : List Name) → nonresidentOf image h (1 + length r) ≡ Sound n → Lists image r n
-  both n e = record { resident-inside = in-resident; nonresident-inside = in-nonresident n e; resident-numbers = numbers image (length image) ResidentNames (h .resident) 1 r re; nonresident-numbers = answers.nonresident-numbers image h (1 + length r) n e }
+  both : (n : List Name) → nonresidentOf image h (length r) ≡ Sound n → Lists image r n
+  both n e = record { resident-inside = in-resident; nonresident-inside = in-nonresident n e; resident-numbers = numbers image (length image) ResidentNames (h .resident) 0 r re; nonresident-numbers = answers.nonresident-numbers image h (length r) n e }
 
 -- What holds of every answer that a query gives to sound lists holds of what was asked.
 from-query : (image : List ℕ) (query : List Name → List Name → Answer) (x : Name) (P : Type 0) → asked image query ≡ Accepted x → ((r n : List Name) → Lists image r n → query r n ≡ Accepted x → P) → P
 unfolding onHeader
 from-query image query x P e holds = go (headerOf image) refl
   where
-    behind : (h : Header) (i : Inside image h) (r : List Name) → residentOf image h ≡ Sound r → (t : Table Name Refusal) → nonresidentOf image h (1 + length r) ≡ t → onTable t Refused (λ n. query r n) ≡ Accepted x → P
+    behind : (h : Header) (i : Inside image h) (r : List Name) → residentOf image h ≡ Sound r → (t : Table Name Refusal) → nonresidentOf image h (length r) ≡ t → onTable t Refused (λ n. query r n) ≡ Accepted x → P
     behind h i r p (Sound n) q z = holds r n (both image h i r p n q) z
     behind h i r p (Unsound why) q z = never cc
 
-    in-lists : (h : Header) (i : Inside image h) (t : Table Name Refusal) → residentOf image h ≡ t → onTable t Refused (λ r. onTable (nonresidentOf image h (1 + length r)) Refused (λ n. query r n)) ≡ Accepted x → P
-    in-lists h i (Sound r) q z = behind h i r q (nonresidentOf image h (1 + length r)) refl z
+    in-lists : (h : Header) (i : Inside image h) (t : Table Name Refusal) → residentOf image h ≡ t → onTable t Refused (λ r. onTable (nonresidentOf image h (length r)) Refused (λ n. query r n)) ≡ Accepted x → P
+    in-lists h i (Sound r) q z = behind h i r q (nonresidentOf image h (length r)) refl z
     in-lists h i (Unsound why) q z = never cc
 
     go : (a : header.Answer) → headerOf image ≡ a → P
     go (header-answer.Accepted h) q =
-        let found : onTable (residentOf image h) Refused (λ r. onTable (nonresidentOf image h (1 + length r)) Refused (λ n. query r n)) ≡ Accepted x = rw q at e in
+        let found : onTable (residentOf image h) Refused (λ r. onTable (nonresidentOf image h (length r)) Refused (λ n. query r n)) ≡ Accepted x = rw q at e in
         in-lists h (header-bounds.accepted image h q) (residentOf image h) refl found
     go (header-answer.Refused why) q =
         let found : Refused why ≡ Accepted x = rw q at e in
@@ -90,7 +90,8 @@ number-accepted image number x e = from-query image (λ r n. numbered number Acc
     in-list : (r n : List Name) → Lists image r n → numbered number Accepted (Refused NoSuchNumber) (r ++ n) ≡ Accepted x → InImage image x × (x .number ≡ number)
     in-list r n l z =
         let all = all-append (InImage image) r n (l .resident-inside) (l .nonresident-inside) in
-        let order = numbered-append (λ (n : Name). n .number) 1 r n (l .resident-numbers) (l .nonresident-numbers) in
+        let behind : suc (length r) ≡ 1 + length r = omega arith in
+        let order = numbered-append (λ (n : Name). n .number) 1 r n (l .resident-numbers) (rw behind at (l .nonresident-numbers)) in
         let first = numbered-first Accepted (λ (n : Name). n .number) number (Refused NoSuchNumber) (r ++ n) order in
         first-holds Accepted (λ (n : Name). eqb (n .number) number) (Refused NoSuchNumber) (InImage image) (λ (a : Answer). a ≡ Accepted x → InImage image x × (x .number ≡ number)) (r ++ n) all (λ q. never cc) (λ y i t q. let is : x ≡ y = cc in (rw is i, rw is (eqb-true _ _ t))) (first ∙ z)
 

@@ -15,10 +15,10 @@ use Rattle.le.specs.Number.{byteAt}
 use Rattle.refusal.specs.declared.Refusal.{Refusal}
 use Rattle.checks.specs.Checks.{_⇒_, decide}
 use Rattle.checks.proofs.Impossible.{never}
-use Rattle.tables.specs.Table.{Step, Next, End, Stop, Sound, Unsound, after, onStep, tableOf}
+use Rattle.tables.specs.Table.{Place, Step, Next, End, Stop, Sound, Unsound, after, onStep, tableOf}
 use Rattle.tables.proofs.Turns.{unrolled}
 use Rattle.names.specs.declared.Name.{Name}
-use Rattle.names.specs.Names.{Place, nameAt, behind, stepOf, listFrom}
+use Rattle.names.specs.Names.{nameAt, behind, stepOf, listFrom}
 
 -- What a step that goes on says: the name that stands there, and the place behind it.
 pub record Went (image : List ℕ) (limit : ℕ) (p : Place) (xs : List Name) (t : Place) : Type 0 where
@@ -32,7 +32,7 @@ module _ (image : List ℕ) (limit : ℕ) (why : Refusal) where
   unfolding stepOf
   went p xs t e = go (ltb limit (p .at + 1)) (eqb (byteAt image (p .at)) 0) (ltb limit (p .at + 1 + byteAt image (p .at) + 2)) refl refl e
     where
-      go : (short none long : Bool) → eqb (byteAt image (p .at)) 0 ≡ none → ltb limit (p .at + 1 + byteAt image (p .at) + 2) ≡ long → _≡_ {A = Step Place Name Refusal} (decide Stop ((short ⇒ why) ∷ []) (cond none End (decide Stop ((long ⇒ why) ∷ []) (Next (nameAt image p ∷ []) (behind (nameAt image p)))))) (Next xs t) → Went image limit p xs t
+      go : (short none long : Bool) → eqb (byteAt image (p .at)) 0 ≡ none → ltb limit (p .at + 1 + byteAt image (p .at) + 2) ≡ long → _≡_ {A = Step Name Refusal} (decide Stop ((short ⇒ why) ∷ []) (cond none End (decide Stop ((long ⇒ why) ∷ []) (Next (nameAt image p ∷ []) (behind (nameAt image p)))))) (Next xs t) → Went image limit p xs t
       go true none long q r h = never cc
       go false true long q r h = never cc
       go false false true q r h = never cc
@@ -45,7 +45,7 @@ module _ (image : List ℕ) (limit : ℕ) (why : Refusal) where
   unfolding stepOf
   end-inside p e = go (ltb limit (p .at + 1)) refl e
     where
-      go : (short : Bool) → ltb limit (p .at + 1) ≡ short → _≡_ {A = Step Place Name Refusal} (decide Stop ((short ⇒ why) ∷ []) (cond (eqb (byteAt image (p .at)) 0) End (decide Stop ((ltb limit (p .at + 1 + byteAt image (p .at) + 2) ⇒ why) ∷ []) (Next (nameAt image p ∷ []) (behind (nameAt image p)))))) End → p .at + 1 ≤ limit
+      go : (short : Bool) → ltb limit (p .at + 1) ≡ short → _≡_ {A = Step Name Refusal} (decide Stop ((short ⇒ why) ∷ []) (cond (eqb (byteAt image (p .at)) 0) End (decide Stop ((ltb limit (p .at + 1 + byteAt image (p .at) + 2) ⇒ why) ∷ []) (Next (nameAt image p ∷ []) (behind (nameAt image p)))))) End → p .at + 1 ≤ limit
       go true q h = never cc
       go false q h = ltb-false _ _ q
 
@@ -55,24 +55,24 @@ module _ (image : List ℕ) (limit : ℕ) (why : Refusal) where
       let ahead : p .at < p .at + 1 + byteAt image (p .at) + 2 = omega arith in
       (rw (w .place) ahead, rw (w .place) (w .fits))
 
-  from-step : (at number : ℕ) (s : Step Place Name Refusal) → stepOf image limit why (record { at = at; number = number }) ≡ s → listFrom image limit why at number ≡ onStep s Unsound (Sound []) (λ xs t. after xs (tableOf (stepOf image limit why) why limit t))
-  from-step at number s e = unrolled (stepOf image limit why) why (λ (p : Place). p .at) limit on (record { at = at; number = number }) ∙ rw e
+  from-step : (at used : ℕ) (s : Step Name Refusal) → stepOf image limit why (record { at = at; used = used }) ≡ s → listFrom image limit why at used ≡ onStep s Unsound (Sound []) (λ xs t. after xs (tableOf (stepOf image limit why) why limit t))
+  from-step at used s e = unrolled (stepOf image limit why) why limit on (record { at = at; used = used }) ∙ rw e
 
-  pub past : (at number : ℕ) → limit ≤ at → listFrom image limit why at number ≡ Unsound why
+  pub past : (at used : ℕ) → limit ≤ at → listFrom image limit why at used ≡ Unsound why
   unfolding stepOf
-  past at number h = let short : limit < at + 1 = omega arith in from-step at number (Stop why) (rw (lt-ltb _ _ short))
+  past at used h = let short : limit < at + 1 = omega arith in from-step at used (Stop why) (rw (lt-ltb _ _ short))
 
-  pub ended : (at number : ℕ) → at < limit → byteAt image at ≡ 0 → listFrom image limit why at number ≡ Sound []
+  pub ended : (at used : ℕ) → at < limit → byteAt image at ≡ 0 → listFrom image limit why at used ≡ Sound []
   unfolding stepOf
-  ended at number h e = let there : at + 1 ≤ limit = omega arith in from-step at number End (rw (le-ltb _ _ there, eq-eqb _ _ e))
+  ended at used h e = let there : at + 1 ≤ limit = omega arith in from-step at used End (rw (le-ltb _ _ there, eq-eqb _ _ e))
 
-  pub cut : (at number : ℕ) → at < limit → (byteAt image at ≡ 0 → ⊥) → limit < at + 1 + byteAt image at + 2 → listFrom image limit why at number ≡ Unsound why
+  pub cut : (at used : ℕ) → at < limit → (byteAt image at ≡ 0 → ⊥) → limit < at + 1 + byteAt image at + 2 → listFrom image limit why at used ≡ Unsound why
   unfolding stepOf
-  cut at number h e k = let there : at + 1 ≤ limit = omega arith in from-step at number (Stop why) (rw (le-ltb _ _ there, ne-eqb _ _ e, lt-ltb _ _ k))
+  cut at used h e k = let there : at + 1 ≤ limit = omega arith in from-step at used (Stop why) (rw (le-ltb _ _ there, ne-eqb _ _ e, lt-ltb _ _ k))
 
-  pub one-name : (at number : ℕ) → (byteAt image at ≡ 0 → ⊥) → at + 1 + byteAt image at + 2 ≤ limit → listFrom image limit why at number ≡ after (nameAt image (record { at = at; number = number }) ∷ []) (listFrom image limit why (at + 1 + byteAt image at + 2) (number + 1))
+  pub one-name : (at used : ℕ) → (byteAt image at ≡ 0 → ⊥) → at + 1 + byteAt image at + 2 ≤ limit → listFrom image limit why at used ≡ after (nameAt image (record { at = at; used = used }) ∷ []) (listFrom image limit why (at + 1 + byteAt image at + 2) (used + 1))
   unfolding stepOf
-  one-name at number e k =
-      let p : Place = record { at = at; number = number } in
+  one-name at used e k =
+      let p : Place = record { at = at; used = used } in
       let there : at + 1 ≤ limit = omega arith in
-      from-step at number (Next (nameAt image p ∷ []) (behind (nameAt image p))) (rw (le-ltb _ _ there, ne-eqb _ _ e, le-ltb _ _ k))
+      from-step at used (Next (nameAt image p ∷ []) (behind (nameAt image p))) (rw (le-ltb _ _ there, ne-eqb _ _ e, le-ltb _ _ k))

@@ -8,7 +8,7 @@ use Rattle.le.specs.Number.{byteAt, wordAt}
 use Rattle.refusal.specs.declared.Refusal.{Refusal}
 use Rattle.refusal.specs.declared.Refusal.the-variants.{NoSuchNumber, ResidentNames, NonresidentNames, NoSuchName}
 use Rattle.checks.specs.Checks.{_⇒_, decide}
-use Rattle.tables.specs.Table.{Step, Next, End, Stop, Table, Sound, onTable, tableOf}
+use Rattle.tables.specs.Table.{Place, Step, Next, End, Stop, Table, Sound, onTable, tableOf}
 use Rattle.tables.specs.Query.{numbered, firstOf}
 use Rattle.header.specs.Header.{headerOf, onHeader}
 use Rattle.header.specs.declared.Header.{Header}
@@ -17,24 +17,18 @@ use Rattle.names.specs.declared.Name.{Name}
 use Rattle.names.specs.declared.Answer.{Answer}
 use Rattle.names.specs.declared.Answer.the-variants.{Accepted, Refused}
 
--- A place in a list: where it is, and the number of the name there.
-pub record Place : Type 0 where
-  pub at : ℕ
-  pub number : ℕ
-
 -- "length byte, text, ordinal word": the name at a place.
 abbrev pub nameAt : List ℕ → Place → Name
 nameAt image p =
     let len = byteAt image (p .at) in
-    record { number = p .number; at = p .at + 1; len = len; ordinal = wordAt image (p .at + 1 + len) }
+    record { number = p .used + 1; at = p .at + 1; len = len; ordinal = wordAt image (p .at + 1 + len) }
 
 -- The place behind a name.
 abbrev pub behind : Name → Place
-behind n = record { at = n .at + n .len + 2; number = n .number + 1 }
+behind n = record { at = n .at + n .len + 2; used = n .number }
 
--- What stands at a place of a list of which nothing may lie behind `limit`: a name, or the length 0 that ends it ("length 0
--- ends the list").
-unfoldable pub stepOf : List ℕ → ℕ → Refusal → Place → Step Place Name Refusal
+-- What stands at a place of a list of which nothing may lie behind `limit`: a name, or its end ("length 0 ends the list").
+unfoldable pub stepOf : List ℕ → ℕ → Refusal → Place → Step Name Refusal
 stepOf image limit why p =
     let n = nameAt image p in
     decide Stop ((ltb limit (p .at + 1) ⇒ why) ∷ [])
@@ -42,27 +36,27 @@ stepOf image limit why p =
     (decide Stop ((ltb limit (behind n .at) ⇒ why) ∷ [])
     (Next (n ∷ []) (behind n))))
 
--- The list from a place on, whose first name has the number `first`.
+-- The list from a place on, where so many names come before it.
 abbrev pub listFrom : List ℕ → ℕ → Refusal → ℕ → ℕ → Table Name Refusal
-listFrom image limit why at first = tableOf (stepOf image limit why) why limit (record { at = at; number = first })
+listFrom image limit why at used = tableOf (stepOf image limit why) why limit (record { at = at; used = used })
 
 -- "The resident list ends inside the image". "Names are numbered from 1, resident list first".
 abbrev pub residentOf : List ℕ → Header → Table Name Refusal
-residentOf image h = listFrom image (length image) ResidentNames (h .resident) 1
+residentOf image h = listFrom image (length image) ResidentNames (h .resident) 0
 
--- "the nonresident list inside its byte count [...] and so is a nonresident table of size 0" empty and sound. Its first name
--- has the number `first`.
+-- "the nonresident list inside its byte count. A list that starts with 0 is empty and sound, and so is a nonresident table of
+-- size 0." So many names, the resident ones, come before it.
 abbrev pub nonresidentOf : List ℕ → Header → ℕ → Table Name Refusal
-nonresidentOf image h first =
+nonresidentOf image h used =
     let t = h .nonresident in
-    cond (eqb (t .count) 0) (Sound []) (listFrom image (t .at + t .count) NonresidentNames (t .at) first)
+    cond (eqb (t .count) 0) (Sound []) (listFrom image (t .at + t .count) NonresidentNames (t .at) used)
 
 -- "Names: both lists are checked, 16, then 8 or 17": the header's refusals, the lists', then what is asked of their names.
 abbrev pub asked : List ℕ → (List Name → List Name → Answer) → Answer
 asked image query =
     onHeader (headerOf image) Refused λ h.
     onTable (residentOf image h) Refused λ resident.
-    onTable (nonresidentOf image h (1 + length resident)) Refused λ nonresident.
+    onTable (nonresidentOf image h (length resident)) Refused λ nonresident.
     query resident nonresident
 
 -- "8: number 0 or above the count". "first strings included".

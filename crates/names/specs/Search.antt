@@ -45,7 +45,7 @@ chosen found takes n = orElse found (cond takes (Found n) Nothing)
 
 -- How far a search has come behind a list of names.
 abbrev pub onwards : List ℕ → Progress → request.Request → List ℕ → List Name → Progress
-onwards image p asked name ns = record { next = p .next + length ns; found = orElse (p .found) (firstOf (wanted image (p .next) asked name) Found Nothing ns) }
+onwards image p asked name ns = record { used = p .used + length ns; found = orElse (p .found) (firstOf (wanted image (p .used + 1) asked name) Found Nothing ns) }
 
 -- What a walk of a list answers.
 abbrev pub walkOf : List ℕ → Table Name Refusal → Progress → request.Request → List ℕ → walk.Walked
@@ -58,12 +58,12 @@ concluded Nothing none = Refused none
 
 -- The answer from the nonresident list, behind what the resident one gave.
 unfoldable pub answerBehind : List ℕ → Header → Progress → request.Request → List ℕ → Refusal → Answer
-answerBehind image h p asked name none = onTable (nonresidentOf image h (p .next)) Refused λ ns. concluded (onwards image p asked name ns .found) none
+answerBehind image h p asked name none = onTable (nonresidentOf image h (p .used)) Refused λ ns. concluded (onwards image p asked name ns .found) none
 
 unfoldable pub answerIn : List ℕ → Header → request.Request → List ℕ → Refusal → Answer
 answerIn image h asked name none =
     onTable (residentOf image h) Refused λ ns.
-    answerBehind image h (onwards image (record { next = 1; found = Nothing }) asked name ns) asked name none
+    answerBehind image h (onwards image (record { used = 0; found = Nothing }) asked name ns) asked name none
 
 unfoldable pub answerOf : List ℕ → request.Request → List ℕ → Refusal → Answer
 answerOf image asked name none = onHeader (headerOf image) Refused λ h. answerIn image h asked name none

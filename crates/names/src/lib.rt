@@ -39,9 +39,9 @@ enum Match {
     Nothing,
 }
 
-// How far a search has come: the number of the next name, and what was found.
+// How far a search has come: how many names are behind it, and what was found.
 struct Progress {
-    pub next: usize,
+    pub used: usize,
     pub found: Match,
 }
 
@@ -92,7 +92,7 @@ fn in_lists(image: &[u8], h: Header, request: Request, name: &[u8], none: Refusa
         why: Refusal::ResidentNames,
     };
     let start = Progress {
-        next: 1,
+        used: 0,
         found: Match::Nothing,
     };
     let walked = list::walk(image, resident, start, request, name);
@@ -111,7 +111,7 @@ fn in_nonresident(
     name: &[u8],
     none: Refusal,
 ) -> Answer
-    requires { ⌜ p .next < 2 ^ 63 ⌝ }
+    requires { ⌜ p .used < 2 ^ 63 ⌝ }
     ensures { λ r. ⌜ r ≡ answerBehind (now (image .entry)) h p request (now (name .entry)) none ⌝ }
 {
     let size = h.nonresident.count;

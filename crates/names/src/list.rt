@@ -20,14 +20,14 @@ pub struct Extent {
 
 // Walks a list to its end byte, and finds what is asked for on the way, unless it was found before.
 pub fn walk(image: &[u8], e: Extent, before: Progress, request: Request, name: &[u8]) -> Walked
-    requires { ⌜ (e .limit < 2 ^ 63) × (before .next < 2 ^ 63) ⌝ }
-    ensures { λ r. ⌜ r ≡ walkOf (now (image .entry)) (listFrom (now (image .entry)) (e .limit) (e .why) (e .at) (before .next)) before request (now (name .entry)) ⌝ }
+    requires { ⌜ (e .limit < 2 ^ 63) × (before .used < 2 ^ 63) ⌝ }
+    ensures { λ r. ⌜ r ≡ walkOf (now (image .entry)) (listFrom (now (image .entry)) (e .limit) (e .why) (e .at) (before .used)) before request (now (name .entry)) ⌝ }
 {
     let limit = e.limit;
     let why = e.why;
-    let first = before.next;
+    let first = before.used + 1;
     let mut at = e.at;
-    let mut next = first;
+    let mut used = before.used;
     let mut found = before.found;
     loop {
         if limit <= at {
@@ -36,7 +36,7 @@ pub fn walk(image: &[u8], e: Extent, before: Progress, request: Request, name: &
         let len = le::byte(image, at);
         if len == 0 {
             return Walked::Sound(Progress {
-                next: next,
+                used: used,
                 found: found,
             });
         }
@@ -47,14 +47,14 @@ pub fn walk(image: &[u8], e: Extent, before: Progress, request: Request, name: &
             return Walked::Unsound(why);
         }
         let n = Name {
-            number: next,
+            number: used + 1,
             at: text,
             len: len,
             ordinal: le::word(image, word),
         };
         found = choose(found, image, n, first, request, name);
         at = end;
-        next += 1;
+        used += 1;
     }
 }
 

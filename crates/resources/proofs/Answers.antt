@@ -5,7 +5,7 @@
 -- Assumes nothing.
 use mathlib.Core.Path.{_≡_, _∙_, refl}
 use mathlib.Core.Bool.{Bool, true, false, cond}
-use mathlib.Core.List.{List, [], _∷_, _++_}
+use mathlib.Core.List.{List, [], _∷_}
 use Prim.Native.Nat.{ℕ, suc, _+_, _≤_, _<_}
 use native.Mathlib.Omega.{arith}
 use borrow.Author.Tests.{lt-ltb, le-ltb, eq-eqb, ne-eqb}
@@ -16,10 +16,10 @@ use Rattle.le.specs.Number.{wordAt}
 use Rattle.checks.proofs.Impossible.{never}
 use Rattle.refusal.specs.declared.Refusal.{Refusal}
 use Rattle.refusal.specs.declared.Refusal.the-variants.{NoSuchNumber, ResourceTable, ResourceShift, NoSuchResource}
-use Rattle.tables.specs.Table.{Next, Table, Sound, Unsound, onTable}
+use Rattle.tables.specs.Table.{Place, Next, Table, Sound, Unsound, onTable}
 use Rattle.tables.specs.Query.{firstOf, numbered}
-use Rattle.tables.proofs.Query.{Numbered, numbered-append, first-through, numbered-first}
-use Rattle.tables.proofs.Induction.{sound-table}
+use Rattle.tables.proofs.Query.{Numbered, first-through, numbered-first}
+use Rattle.tables.proofs.Induction.{table-numbers}
 use Rattle.header.specs.Header.{headerOf}
 use Rattle.header.specs.declared.Header.{Header}
 use Rattle.header.proofs.Onward.{onward}
@@ -31,7 +31,7 @@ use Rattle.resources.specs.declared.Request.the-variants.{Number, Words}
 use Rattle.resources.specs.declared.Match.{Match}
 use Rattle.resources.specs.declared.Match.the-variants.{Found, Nothing}
 use Rattle.resources.specs.declared.Walked.the-variants as walked
-use Rattle.resources.specs.Resource.{Place, stepOf, blockAt, blocksFrom, resourcesOf, dataChecked, hasWords, resourceByNumber, resourceByWords}
+use Rattle.resources.specs.Resource.{stepOf, blockAt, blocksFrom, resourcesOf, dataChecked, hasWords, resourceByNumber, resourceByWords}
 use Rattle.resources.specs.Search.{wanted, walkOf, concluded, answerIn, answerOf}
 use Rattle.resources.proofs.InBlock.{many, in-order}
 use Rattle.resources.proofs.Blocks.{went}
@@ -69,17 +69,16 @@ unsound-answer len (Unsound other) asked none why e = let is : why ≡ other = c
 
 -- The resources of a sound table have their numbers.
 numbers-from : (image : List ℕ) (shift at : ℕ) (rs : List Resource) → blocksFrom image shift at ≡ Sound rs → Numbered (λ (r : Resource). r .number) 1 rs
-numbers-from image shift at rs e = sound-table (stepOf image shift) ResourceTable (λ (p : Place) (rs : List Resource). Numbered (λ (r : Resource). r .number) (suc (p .used)) rs) (λ p q. tt) more (length image) (record { at = at; used = 0 }) rs e
+numbers-from image shift at rs e = table-numbers (stepOf image shift) ResourceTable (λ (r : Resource). r .number) in-block (length image) (record { at = at; used = 0 }) rs e
   where
-    more : (p : Place) (xs : List Resource) (t : Place) (ys : List Resource) → stepOf image shift p ≡ Next xs t → Numbered (λ (r : Resource). r .number) (suc (t .used)) ys → Numbered (λ (r : Resource). r .number) (suc (p .used)) (xs ++ ys)
-    more p xs t ys q n =
+    in-block : (p : Place) (xs : List Resource) (t : Place) → stepOf image shift p ≡ Next xs t → Numbered (λ (r : Resource). r .number) (suc (p .used)) xs × (t .used ≡ p .used + length xs)
+    in-block p xs t q =
         let w = went image shift p xs t q in
         let b = blockAt image shift p in
         let first : suc (p .used + 0) ≡ suc (p .used) = omega arith in
         let mine : Numbered (λ (r : Resource). r .number) (suc (p .used)) xs = rw (w .0) (rw first at (in-order image b (b .count) 0)) in
         let size : length xs ≡ wordAt image (p .at + 2) = rw (w .0) (many image b (b .count) 0) in
-        let behind : suc (t .used) ≡ suc (p .used) + length xs = rw (w .1) (omega (arith, size)) in
-        numbered-append (λ (r : Resource). r .number) (suc (p .used)) xs ys mine (rw behind at n)
+        (mine, rw (w .1) (omega (arith, size)))
 
 numbers : (image : List ℕ) (h : Header) (rs : List Resource) → resourcesOf image h ≡ Sound rs → Numbered (λ (r : Resource). r .number) 1 rs
 unfolding resourcesOf

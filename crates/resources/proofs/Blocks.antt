@@ -16,11 +16,11 @@ use Rattle.refusal.specs.declared.Refusal.{Refusal}
 use Rattle.refusal.specs.declared.Refusal.the-variants.{ResourceTable}
 use Rattle.checks.proofs.Impossible.{never}
 use Rattle.checks.specs.Checks.{_⇒_, decide}
-use Rattle.tables.specs.Table.{Step, Next, End, Stop, Table, Sound, Unsound, after, onStep, tableOf}
+use Rattle.tables.specs.Table.{Place, Step, Next, End, Stop, Table, Sound, Unsound, after, onStep, tableOf}
 use Rattle.tables.proofs.Turns.{unrolled}
 use Rattle.resources.specs.declared.Resource.{Resource}
 use Rattle.resources.specs.declared.block.Block.{Block}
-use Rattle.resources.specs.Resource.{Place, stepOf, blockAt, behind, blockResources}
+use Rattle.resources.specs.Resource.{stepOf, blockAt, behind, blockResources}
 
 module _ (image : List ℕ) (shift : ℕ) where
   -- A step that goes on has passed the checks.
@@ -31,7 +31,7 @@ module _ (image : List ℕ) (shift : ℕ) where
       b : Block
       b = blockAt image shift p
 
-      go : (short none long : Bool) → ltb (length image) (p .at + 8 + 12 * wordAt image (p .at + 2)) ≡ long → _≡_ {A = Step Place Resource Refusal} (decide Stop ((short ⇒ ResourceTable) ∷ []) (cond none End (decide Stop ((long ⇒ ResourceTable) ∷ []) (Next (blockResources image (blockAt image shift p)) (behind (blockAt image shift p)))))) (Next xs t) → (xs ≡ blockResources image (blockAt image shift p)) × (t ≡ behind (blockAt image shift p)) × (t .at ≤ length image)
+      go : (short none long : Bool) → ltb (length image) (p .at + 8 + 12 * wordAt image (p .at + 2)) ≡ long → _≡_ {A = Step Resource Refusal} (decide Stop ((short ⇒ ResourceTable) ∷ []) (cond none End (decide Stop ((long ⇒ ResourceTable) ∷ []) (Next (blockResources image (blockAt image shift p)) (behind (blockAt image shift p)))))) (Next xs t) → (xs ≡ blockResources image (blockAt image shift p)) × (t ≡ behind (blockAt image shift p)) × (t .at ≤ length image)
       go true none long q h = never cc
       go false true long q h = never cc
       go false false true q h = never cc
@@ -49,8 +49,8 @@ module _ (image : List ℕ) (shift : ℕ) where
   abbrev pub tableAt : ℕ → ℕ → Table Resource Refusal
   tableAt at used = tableOf (stepOf image shift) ResourceTable (length image) (record { at = at; used = used })
 
-  from-step : (at used : ℕ) (s : Step Place Resource Refusal) → stepOf image shift (record { at = at; used = used }) ≡ s → tableAt at used ≡ onStep s Unsound (Sound []) (λ xs t. after xs (tableOf (stepOf image shift) ResourceTable (length image) t))
-  from-step at used s e = unrolled (stepOf image shift) ResourceTable (λ (p : Place). p .at) (length image) on (record { at = at; used = used }) ∙ rw e
+  from-step : (at used : ℕ) (s : Step Resource Refusal) → stepOf image shift (record { at = at; used = used }) ≡ s → tableAt at used ≡ onStep s Unsound (Sound []) (λ xs t. after xs (tableOf (stepOf image shift) ResourceTable (length image) t))
+  from-step at used s e = unrolled (stepOf image shift) ResourceTable (length image) on (record { at = at; used = used }) ∙ rw e
 
   pub past : (at used : ℕ) → length image < at + 2 → tableAt at used ≡ Unsound ResourceTable
   unfolding stepOf

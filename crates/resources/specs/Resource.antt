@@ -8,7 +8,7 @@ use Rattle.le.specs.Number.{wordAt}
 use Rattle.refusal.specs.declared.Refusal.{Refusal}
 use Rattle.refusal.specs.declared.Refusal.the-variants.{NoSuchNumber, ResourceTable, ResourceShift, NoSuchResource, ResourceOutside}
 use Rattle.checks.specs.Checks.{_⇒_, decide}
-use Rattle.tables.specs.Table.{Step, Next, End, Stop, Table, Sound, Unsound, onTable, tableOf}
+use Rattle.tables.specs.Table.{Place, Step, Next, End, Stop, Table, Sound, Unsound, onTable, tableOf}
 use Rattle.tables.specs.Query.{numbered, firstOf}
 use Rattle.header.specs.Header.{headerOf, onHeader}
 use Rattle.header.specs.declared.Header.{Header}
@@ -39,11 +39,6 @@ resourcesFrom (suc left) image b index = resourceAt image b index ∷ resourcesF
 abbrev pub blockResources : List ℕ → Block → List Resource
 blockResources image b = resourcesFrom (b .count) image b 0
 
--- A place in the table: where it is, and how many resources come before it.
-pub record Place : Type 0 where
-  pub at : ℕ
-  pub used : ℕ
-
 -- "blocks of type word, count word, 4 reserved bytes and 12 bytes for each resource".
 abbrev pub blockAt : List ℕ → ℕ → Place → Block
 blockAt image shift p = record { kind = wordAt image (p .at); shift = shift; used = p .used; at = p .at + 8; count = wordAt image (p .at + 2) }
@@ -53,7 +48,7 @@ behind b = record { at = b .at + 12 * b .count; used = b .used + b .count }
 
 -- What stands at a place of the table: a block, or the type 0 that ends it, of which only the type word is there. "18:
 -- resource table leaves the image".
-unfoldable pub stepOf : List ℕ → ℕ → Place → Step Place Resource Refusal
+unfoldable pub stepOf : List ℕ → ℕ → Place → Step Resource Refusal
 stepOf image shift p =
     let b = blockAt image shift p in
     decide Stop ((ltb (length image) (p .at + 2) ⇒ ResourceTable) ∷ [])

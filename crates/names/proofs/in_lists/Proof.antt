@@ -34,13 +34,13 @@ enum-known-walked-2 c = search needs
 
 -- Where a search starts.
 abbrev start : Progress
-start = record { next = 1; found = Nothing }
+start = record { used = 0; found = Nothing }
 
 in-nonresident-requires : tie.Need-in-nonresident-requires
 in-nonresident-requires c κs =
     let a = c .before .before .before .before .before .before .before .args in
     let image = now (a .image) in
-    let size : (ns : List Name) → residentOf image (a .h) ≡ Sound ns → 4 * length ns ≤ length image = λ ns e. let all = few image (length image) ResidentNames (a .h .resident) 1 ns e in omega (arith, all) in
+    let size : (ns : List Name) → residentOf image (a .h) ≡ Sound ns → 4 * length ns ≤ length image = λ ns e. let all = few image (length image) ResidentNames (a .h .resident) 0 ns e in omega (arith, all) in
     let next = next-few image (length image) (residentOf image (a .h)) start (c .before .walked2 .given .0 .0) (a .request) (now (a .name)) (sym (c .before .before .before .walk .ensures) ∙ c .before .walked2 .given .1) size in
     omega (arith, next, c .before .before .before .before .before .before .before .good .0 .1)
 
