@@ -43,11 +43,12 @@ blockResources image b = resourcesFrom (b .count) image b 0
 abbrev pub blockAt : List ℕ → ℕ → Place → Block
 blockAt image shift p = record { kind = wordAt image (p .at); shift = shift; used = p .used; at = p .at + 8; count = wordAt image (p .at + 2) }
 
+-- The place behind a block.
 abbrev pub behind : Block → Place
 behind b = record { at = b .at + 12 * b .count; used = b .used + b .count }
 
--- What stands at a place of the table: a block, or the type 0 that ends it, of which only the type word is there. "18:
--- resource table leaves the image".
+-- What stands at a place of the table: a block, or its end ("Type 0 ends the table"), which has a type word only. "18: resource
+-- table leaves the image".
 unfoldable pub stepOf : List ℕ → ℕ → Place → Step Resource Refusal
 stepOf image shift p =
     let b = blockAt image shift p in
@@ -82,7 +83,8 @@ asked image query = onHeader (headerOf image) Refused λ h. onTable (resourcesOf
 unfoldable pub resourceByNumber : List ℕ → ℕ → Answer
 resourceByNumber image number = asked image (numbered number (dataChecked (length image)) (Refused NoSuchNumber))
 
--- "A query gives two words with the high bit set; a word without it finds nothing." So does a number over 16 bits.
+-- "A query gives two words with the high bit set; a word without it finds nothing." A number over 16 bits
+-- is no such word.
 abbrev pub highBit : ℕ → Bool
 highBit word = eqb (word / 0x8000) 1
 
