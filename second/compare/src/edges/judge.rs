@@ -75,3 +75,14 @@ impl<Q: Query> Judge<Q> {
         demand(&mut self.tally, name, &Answer::Refused(refusal), answers);
     }
 }
+
+impl<Q: Query<Request = u32>> Judge<Q> {
+    /// Each power of two above 3, numbers next to it, and the greatest ones.
+    pub fn refuses_above_3(&mut self, image: &Minimal, refusal: u32) {
+        let next_to = |power: u32| power - 1..=power + 3;
+        let powers = (3..32).flat_map(|bit| next_to(1 << bit));
+        for number in powers.chain(0xFFFF_FFF0..=0xFFFF_FFFF) {
+            self.refuses(&format!("{number} of 3"), image, number, refusal);
+        }
+    }
+}

@@ -72,18 +72,9 @@ fn behind_the_lists(judge: &mut Judge) {
     judge.refuses("4 of 3 with strings behind", &image, 4, 8);
 }
 
-/// Each power of two, and numbers next to it, above the three names.
 fn great_numbers(judge: &mut Judge) {
     let image = both(&list(&[b"M", b"A"]), &list(&[b"D"]));
-    for bit in 3..32 {
-        let power = 1u32 << bit;
-        for number in [power - 1, power, power + 1, power + 2, power + 3] {
-            judge.refuses(&format!("{number} of 3"), &image, number, 8);
-        }
-    }
-    for number in 0xFFFF_FFF0..=0xFFFF_FFFF {
-        judge.refuses(&format!("{number} of 3"), &image, number, 8);
-    }
+    judge.refuses_above_3(&image, 8);
 }
 
 /// Each string has an ordinal word of its own, so that none is taken for

@@ -105,16 +105,7 @@ fn values(judge: &mut Judge) {
     }
 }
 
-/// Each power of two, and numbers next to it, above the three ordinals.
 fn four_billion(judge: &mut Judge) {
     let image = module(1, &ended(&[&fixed(1, 3)]));
-    for bit in 3..32 {
-        let power = 1u32 << bit;
-        for number in [power - 1, power, power + 1, power + 2, power + 3] {
-            judge.refuses(&format!("{number} of 3"), &image, number, 15);
-        }
-    }
-    for number in 0xFFFF_FFF0..=0xFFFF_FFFF {
-        judge.refuses(&format!("{number} of 3"), &image, number, 15);
-    }
+    judge.refuses_above_3(&image, 15);
 }

@@ -71,18 +71,9 @@ fn without_the_high_bit(judge: &mut Judge) {
     judge.refuses("6 of 5", &image, 6, 8);
 }
 
-/// Each power of two, and numbers next to it, above the three resources.
 fn great_numbers(judge: &mut Judge) {
     let image = module(&table(0, &[block(0x8001, &[[1, 0, 0, 0x8001]; 3])]));
-    for bit in 3..32 {
-        let power = 1u32 << bit;
-        for number in [power - 1, power, power + 1, power + 2, power + 3] {
-            judge.refuses(&format!("{number} of 3"), &image, number, 8);
-        }
-    }
-    for number in 0xFFFF_FFF0..=0xFFFF_FFFF {
-        judge.refuses(&format!("{number} of 3"), &image, number, 8);
-    }
+    judge.refuses_above_3(&image, 8);
 }
 
 /// Two blocks, of 65,535 and of 9. Each resource's words follow from its number.
