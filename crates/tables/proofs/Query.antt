@@ -1,5 +1,6 @@
 -- The laws of what is asked of a list.
 --     numbered-append  the numbers of two lists together
+--     numbered-has     the element of a number up to the count is the one at that place
 --     first-append     in two lists together the second is asked where the first has nothing
 --     first-through    what follows of what is found can be said of each element
 --     first-holds      what is found was taken by the test, and whatever holds of all elements holds of it
@@ -10,7 +11,6 @@
 --     counted          the first element that has a number is the one of that number, counted from the first one's
 --     numbered-first   where the elements have their numbers, the element of a number is the first one that has it
 --     numbered-lacked  a list lacks the elements of number 0 and above its count
---     numbered-has     the element of any other number is the one at that place
 -- Assumes nothing.
 use mathlib.Core.Path.{_≡_, refl, ap}
 use mathlib.Core.Logic.{_⊎_, inl, inr}
@@ -52,6 +52,15 @@ numbered-append number first (x ∷ xs) ys n m =
     (n .0, numbered-append number (suc first) xs ys (n .1) (rw same at m))
 
 module _ {A B : Type 0} (found : A → B) where
+  pub numbered-has : (index : ℕ) (none : B) (xs : List A) (d : A) → index < length xs → numbered (suc index) found none xs ≡ found (getD xs index d)
+  unfolding numbered
+  numbered-has index none [] d h = absurd (omega arith)
+  numbered-has zero none (x ∷ xs) d h = refl
+  numbered-has (suc index) none (x ∷ xs) d h =
+      let other : suc (suc index) ≡ 1 → ⊥ = λ e. omega arith in
+      let left : suc (suc index) - 1 ≡ suc index = omega arith in
+      rw (ne-eqb (suc (suc index)) 1 other, left) (numbered-has index none xs d (omega arith))
+
   pub first-append : (test : A → Bool) (none : B) (xs ys : List A) → firstOf test found none (xs ++ ys) ≡ firstOf test found (firstOf test found none ys) xs
   unfolding firstOf
   first-append test none [] ys = refl
@@ -105,15 +114,6 @@ module _ {A B : Type 0} (found : A → B) where
       let other : number ≡ 1 → ⊥ = λ e. omega arith in
       let still : length xs < number - 1 = omega arith in
       rw (ne-eqb number 1 other) (numbered-lacked (number - 1) none xs (inr still))
-
-  pub numbered-has : (index : ℕ) (none : B) (xs : List A) (d : A) → index < length xs → numbered (suc index) found none xs ≡ found (getD xs index d)
-  unfolding numbered
-  numbered-has index none [] d h = absurd (omega arith)
-  numbered-has zero none (x ∷ xs) d h = refl
-  numbered-has (suc index) none (x ∷ xs) d h =
-      let other : suc (suc index) ≡ 1 → ⊥ = λ e. omega arith in
-      let left : suc (suc index) - 1 ≡ suc index = omega arith in
-      rw (ne-eqb (suc (suc index)) 1 other, left) (numbered-has index none xs d (omega arith))
 
   pub below : (has : A → ℕ) (first number : ℕ) (xs : List A) → Numbered has first xs → number < first → All (λ x. eqb (has x) number ≡ false) xs
   below has first number [] n h = tt

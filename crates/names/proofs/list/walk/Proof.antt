@@ -108,8 +108,7 @@ add-t19 : tie.Need-add-t19 Inv-loop μ-loop
 add-t19 c =
     let limit = c .before .before .before .before .before .before .before .before .pre .0 in
     let before = c .before .before .before .before .before .before .before .before .pre .1 in
-    let fits : c .before .before .before .before .loop .used + 1 < 2 ^ 64 = omega (arith, limit, before, c .before .before .before .before .loop .inv .0) in
-    record { fits = fits }
+    record { fits = omega (arith, limit, before, c .before .before .before .before .loop .inv .0) }
 
 word-requires : tie.Need-word-requires Inv-loop μ-loop
 word-requires c κs = search needs
@@ -140,7 +139,8 @@ loop-again c =
     let is : n ≡ nameAt image (record { at = l .at; used = l .used }) = same-name image (l .at) (l .used) len (c .before .word .ensures) in
     let some : byteAt image (l .at) ≡ 0 → ⊥ = λ none. c .before .before .before .if2 .left (len ∙ none) in
     let fits : l .at + 1 + byteAt image (l .at) + 2 ≤ a .e .limit = rw (sym len) (omega arith) in
-    let found : c .choose .result ≡ chosen (l .found) (wanted image (a .before .used + 1) (a .request) (now (a .name)) (nameAt image (record { at = l .at; used = l .used }))) (nameAt image (record { at = l .at; used = l .used })) = c .choose .ensures ∙ ap (λ (n : Name). chosen (l .found) (wanted image (a .before .used + 1) (a .request) (now (a .name)) n) n) is in
+    let took : c .choose .result ≡ chosen (l .found) (wanted image (a .before .used + 1) (a .request) (now (a .name)) n) n = c .choose .ensures in
+    let found : c .choose .result ≡ chosen (l .found) (wanted image (a .before .used + 1) (a .request) (now (a .name)) (nameAt image (record { at = l .at; used = l .used }))) (nameAt image (record { at = l .at; used = l .used })) = took ∙ ap (λ (n : Name). chosen (l .found) (wanted image (a .before .used + 1) (a .request) (now (a .name)) n) n) is in
     let rest = listFrom image (a .e .limit) (a .e .why) (l .at + 1 + byteAt image (l .at) + 2) (l .used + 1) in
     let goes = one-name image (a .e .limit) (a .e .why) (l .at) (l .used) some fits in
     let more = in-more image (a .before .used + 1) (a .request) (now (a .name)) (l .used) (l .found) (nameAt image (record { at = l .at; used = l .used })) rest in
