@@ -30,7 +30,7 @@ use Rattle.names.specs.declared.Match.{Match}
 use Rattle.names.specs.declared.Match.the-variants.{Found, Nothing}
 use Rattle.names.specs.declared.Walked.the-variants as walked
 use Rattle.names.specs.Text.{same}
-use Rattle.names.specs.Names.{listFrom, residentOf, nonresidentOf, textOf, nameByNumber, nameByBytes}
+use Rattle.names.specs.Names.{listFrom, residentOf, nonresidentEnd, nonresidentOf, textOf, nameByNumber, nameByBytes}
 use Rattle.names.specs.Search.{hasNumber, hasBytes, wanted, orElse, onwards, walkOf, concluded, answerBehind, answerIn, answerOf}
 use Rattle.names.proofs.Numbers.{numbers}
 
@@ -64,9 +64,9 @@ in-both test other none r n =
 pub nonresident-numbers : (image : List ℕ) (h : Header) (used : ℕ) (ns : List Name) → nonresidentOf image h used ≡ Sound ns → Numbered (λ (n : Name). n .number) (suc used) ns
 nonresident-numbers image h used ns e = go (eqb (h .nonresident .count) 0) e
   where
-    go : (none : Bool) → cond none (Sound []) (listFrom image (h .nonresident .at + h .nonresident .count) NonresidentNames (h .nonresident .at) used) ≡ Sound ns → Numbered (λ (n : Name). n .number) (suc used) ns
+    go : (none : Bool) → cond none (Sound []) (listFrom image (nonresidentEnd h) NonresidentNames (h .nonresident .at) used) ≡ Sound ns → Numbered (λ (n : Name). n .number) (suc used) ns
     go true q = let is : ns ≡ [] = cc in rw is tt
-    go false q = numbers image (h .nonresident .at + h .nonresident .count) NonresidentNames (h .nonresident .at) used ns q
+    go false q = numbers image (nonresidentEnd h) NonresidentNames (h .nonresident .at) used ns q
 
 -- The answers from both lists, for a query that says the same of all sound lists.
 same-query : (image : List ℕ) (asked : Request) (name : List ℕ) (none : Refusal) (query : List Name → List Name → Answer) → ((r n : List Name) → Numbered (λ (n : Name). n .number) 1 r → Numbered (λ (n : Name). n .number) (suc (length r)) n → concluded (orElse (firstOf (wanted image 1 asked name) Found Nothing r) (firstOf (wanted image (length r + 1) asked name) Found Nothing n)) none ≡ query r n) → answerOf image asked name none ≡ Rattle.names.specs.Names.asked image query

@@ -30,7 +30,7 @@ use Rattle.names.specs.declared.Name.{Name}
 use Rattle.names.specs.declared.Answer.{Answer}
 use Rattle.names.specs.declared.Answer.the-variants.{Accepted, Refused}
 use Rattle.names.specs.Text.{same}
-use Rattle.names.specs.Names.{listFrom, residentOf, nonresidentOf, asked, textOf, nameByNumber, nameByBytes}
+use Rattle.names.specs.Names.{listFrom, residentOf, nonresidentEnd, nonresidentOf, asked, textOf, nameByNumber, nameByBytes}
 use Rattle.names.specs.InImage.{InImage}
 use Rattle.names.proofs.SameText.{same-is}
 use Rattle.names.proofs.Numbers.{Bounded, numbers, few, bounded}
@@ -50,14 +50,14 @@ module _ (image : List ℕ) (h : Header) (inside : Inside image h) (r : List Nam
   in-nonresident : (n : List Name) → nonresidentOf image h (length r) ≡ Sound n → All (InImage image) n
   in-nonresident n e = go (eqb (h .nonresident .count) 0) refl e
     where
-      go : (none : Bool) → eqb (h .nonresident .count) 0 ≡ none → cond none (Sound []) (listFrom image (h .nonresident .at + h .nonresident .count) NonresidentNames (h .nonresident .at) (length r)) ≡ Sound n → All (InImage image) n
+      go : (none : Bool) → eqb (h .nonresident .count) 0 ≡ none → cond none (Sound []) (listFrom image (nonresidentEnd h) NonresidentNames (h .nonresident .at) (length r)) ≡ Sound n → All (InImage image) n
       go true q z = let is : n ≡ [] = cc in rw is tt
       go false q z =
           let there : h .nonresident .count ≡ 0 → ⊥ = eqb-false _ _ q in
           let some : 0 < h .nonresident .count = omega (arith, there) in
           let limit = inside .nonresident some in
           let before = few image (length image) ResidentNames (h .resident) 0 r re in
-          all-map (Bounded image (h .nonresident .at + h .nonresident .count) (record { at = h .nonresident .at; used = length r })) (InImage image) (λ x b. record { some = b .some; length-byte = b .length-byte; inside = omega (arith, b .fits, limit); size = inside .size; number = omega (arith, b .number, b .fits, inside .size, limit, before) }) n (bounded image (h .nonresident .at + h .nonresident .count) NonresidentNames (h .nonresident .at) (length r) n z)
+          all-map (Bounded image (nonresidentEnd h) (record { at = h .nonresident .at; used = length r })) (InImage image) (λ x b. record { some = b .some; length-byte = b .length-byte; inside = omega (arith, b .fits, limit); size = inside .size; number = omega (arith, b .number, b .fits, inside .size, limit, before) }) n (bounded image (nonresidentEnd h) NonresidentNames (h .nonresident .at) (length r) n z)
 
   both : (n : List Name) → nonresidentOf image h (length r) ≡ Sound n → Lists image r n
   both n e = record { resident-inside = in-resident; nonresident-inside = in-nonresident n e; resident-numbers = numbers image (length image) ResidentNames (h .resident) 0 r re; nonresident-numbers = answers.nonresident-numbers image h (length r) n e }

@@ -44,12 +44,16 @@ listFrom image limit why at used = tableOf (stepOf image limit why) why limit (r
 abbrev pub residentOf : List ℕ → Header → Table Name Refusal
 residentOf image h = listFrom image (length image) ResidentNames (h .resident) 0
 
+-- "20 nonresident bytes": the place behind which nothing of the nonresident list may lie.
+abbrev pub nonresidentEnd : Header → ℕ
+nonresidentEnd h = h .nonresident .at + h .nonresident .count
+
 -- "the nonresident list inside its byte count. A list that starts with 0 is empty and sound, and so is a nonresident table of
 -- size 0." So many names, the resident ones, come before it.
 abbrev pub nonresidentOf : List ℕ → Header → ℕ → Table Name Refusal
 nonresidentOf image h used =
     let t = h .nonresident in
-    cond (eqb (t .count) 0) (Sound []) (listFrom image (t .at + t .count) NonresidentNames (t .at) used)
+    cond (eqb (t .count) 0) (Sound []) (listFrom image (nonresidentEnd h) NonresidentNames (t .at) used)
 
 -- "Names: both lists are checked, 16, then 8 or 17": the header's refusals, the lists', then what is asked of their names.
 abbrev pub asked : List ℕ → (List Name → List Name → Answer) → Answer

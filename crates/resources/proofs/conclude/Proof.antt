@@ -1,6 +1,6 @@
 -- `resources::conclude` meets its contract: the test is the definition's.
 -- Assumes nothing.
-use Prim.Native.Nat.{_+_, _≤_}
+use Prim.Native.Nat.{_+_, _≤_, _<_}
 use native.Mathlib.Omega.{arith}
 use borrow.Author.Tests.{lt-ltb, le-ltb}
 use Rattle.resources.specs.Resource.{dataChecked}
@@ -25,7 +25,10 @@ add-if1 c = search needs
 
 returns : tie.Need-returns
 unfolding dataChecked
-returns c = rw (c .before .before .before .before .found .given .1, lt-ltb _ _ (c .if1 .taken))
+returns c =
+    let r = c .before .before .before .before .found .given .0 .0 in
+    let over : c .before .before .before .before .before .before .args .len < r .at + r .len = c .if1 .taken in
+    rw (c .before .before .before .before .found .given .1, lt-ltb _ _ over)
 
 returns-2 : tie.Need-returns-2
 returns-2 c = rw (c .enum-told .given .1)
