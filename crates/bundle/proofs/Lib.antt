@@ -1,2 +1,3 @@
 pub mod Went
+pub mod Entries
 pub mod Widths

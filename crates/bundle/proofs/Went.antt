@@ -1,6 +1,7 @@
 -- The laws of one step of the walk.
 --     step-past, step-end, step-bundle   what stands at a place, from what its bytes are
 --     went                               what a step that goes on says about its bundle
+--     entries-sound                      no entry of that bundle is unsound
 -- Assumes nothing.
 use mathlib.Core.Path.{_≡_, refl, ap}
 use mathlib.Core.Bool.{Bool, true, false}
@@ -13,12 +14,12 @@ use lib.ListN.{length}
 use Rattle.checks.proofs.Impossible.{never}
 use Rattle.le.specs.Number.{byteAt}
 use Rattle.refusal.specs.declared.Refusal.the-variants.{EntryTableEnds}
-use Rattle.checks.specs.Checks.{decide}
+use Rattle.checks.specs.Checks.{decide, Passed}
 use Rattle.checks.proofs.Checks.{passed, answered}
 use Rattle.bundle.specs.declared.Bundle.{Bundle}
 use Rattle.bundle.specs.declared.Step.{Step}
 use Rattle.bundle.specs.declared.Step.the-variants.{Next, End, Refused}
-use Rattle.bundle.specs.Bundle.{widthOf, stepOf, bundleAt, bundleChecks}
+use Rattle.bundle.specs.Bundle.{widthOf, stepOf, bundleAt, bundleChecks, unsoundFrom}
 
 is-refusal : Step → Bool
 is-refusal (Next b) = false
@@ -58,11 +59,12 @@ module _ (table : List ℕ) (segments at used : ℕ) where
       let there : at + 1 ≤ length table = omega arith in
       rw (ne-eqb (length table) 0 full, le-ltb (length table) (at + 1) there, ne-eqb (byteAt table at) 0 some)
 
-  pub went : (b : Bundle) → stepOf table segments at used ≡ Next b → Went table at used b
-  unfolding stepOf bundleChecks bundleAt is-refusal
-  went b e = go (eqb (length table) 0) (ltb (length table) (at + 1)) (eqb (byteAt table at) 0) refl refl refl
+  -- A step that goes on does so over the bundle that stands there, all of whose checks passed.
+  checked : (b : Bundle) → stepOf table segments at used ≡ Next b → (b ≡ bundleAt table at used) × (byteAt table at ≡ 0 → ⊥) × Passed (bundleChecks table segments (bundleAt table at used))
+  unfolding stepOf is-refusal
+  checked b e = go (eqb (length table) 0) (ltb (length table) (at + 1)) (eqb (byteAt table at) 0) refl refl refl
     where
-      go : (empty missing none : Bool) → eqb (length table) 0 ≡ empty → ltb (length table) (at + 1) ≡ missing → eqb (byteAt table at) 0 ≡ none → Went table at used b
+      go : (empty missing none : Bool) → eqb (length table) 0 ≡ empty → ltb (length table) (at + 1) ≡ missing → eqb (byteAt table at) 0 ≡ none → (b ≡ bundleAt table at used) × (byteAt table at ≡ 0 → ⊥) × Passed (bundleChecks table segments (bundleAt table at used))
       go true missing none p q r = let z : End ≡ Next b = rw p at e in never cc
       go false true none p q r = let z : Refused EntryTableEnds ≡ Next b = rw (p, q) at e in never cc
       go false false true p q r = let z : End ≡ Next b = rw (p, q, r) at e in never cc
@@ -72,8 +74,20 @@ module _ (table : List ℕ) (segments at used : ℕ) where
           let answer = answered Refused is-refusal (λ why. refl) (bundleChecks table segments here) (Next here) (ap is-refusal found) in
           let all = passed Refused is-refusal (λ why. refl) (bundleChecks table segments here) (Next here) (ap is-refusal found) in
           let is : b ≡ here = cc in
-          let some : byteAt table at ≡ 0 → ⊥ = eqb-false _ 0 r in
-          let few : used + byteAt table at ≤ 65535 = ltb-false _ _ (all .1 .0) in
-          let room : at + 2 ≤ here .end = omega arith in
-          let end : here .end ≤ length table = ltb-false _ _ (all .1 .1 .0) in
-          rw is (record { is = refl; base = refl; some = omega arith; few = few; on = omega arith; room = room; size = refl; end = end })
+          (is, eqb-false _ 0 r, all)
+
+  pub went : (b : Bundle) → stepOf table segments at used ≡ Next b → Went table at used b
+  unfolding bundleChecks bundleAt
+  went b e =
+      let c = checked b e in
+      let here = bundleAt table at used in
+      let some : byteAt table at ≡ 0 → ⊥ = c .1 in
+      let few : used + byteAt table at ≤ 65535 = ltb-false _ _ (c .2 .1 .0) in
+      let room : at + 2 ≤ here .end = omega arith in
+      let end : here .end ≤ length table = ltb-false _ _ (c .2 .1 .1 .0) in
+      rw (c .0) (record { is = refl; base = refl; some = omega arith; few = few; on = omega arith; room = room; size = refl; end = end })
+
+  -- No entry of it is unsound.
+  pub entries-sound : (b : Bundle) → stepOf table segments at used ≡ Next b → unsoundFrom (b .count) table segments (b .kind) (b .at) ≡ false
+  unfolding bundleChecks
+  entries-sound b e = let c = checked b e in rw (c .0) (c .2 .1 .1 .1 .0)

@@ -4,4 +4,5 @@ pub mod Walks
 pub mod Induction
 pub mod Follow
 pub mod Resolves
+pub mod Segments
 pub mod Examples

@@ -52,14 +52,14 @@ pub entry-in : (table : List ℕ) (bs : List Bundle) (b : Bundle) (number : ℕ)
 entry-in table bs b number f m h k = rw (slot-there 0 number b bs f m h k)
 
 -- A bundle of the list covers the ordinal, and the slot is the one in it.
-record There (number : ℕ) (bs : List Bundle) (slot : Slot) : Type 0 where
-  bundle : Bundle
-  among : Among bundle bs
-  above : bundle .used < number
-  within : number ≤ bundle .used + bundle .count
-  is : slot ≡ slotOf bundle number
+pub record There (number : ℕ) (bs : List Bundle) (slot : Slot) : Type 0 where
+  pub bundle : Bundle
+  pub among : Among bundle bs
+  pub above : bundle .used < number
+  pub within : number ≤ bundle .used + bundle .count
+  pub is : slot ≡ slotOf bundle number
 
-slot-cases : (number : ℕ) (bs : List Bundle) → (slotIn bs number ≡ noSlot) ⊎ There number bs (slotIn bs number)
+pub slot-cases : (number : ℕ) (bs : List Bundle) → (slotIn bs number ≡ noSlot) ⊎ There number bs (slotIn bs number)
 unfolding slotIn
 slot-cases number [] = inl refl
 slot-cases number (b ∷ bs) = go (covers b number) refl (slot-cases number bs)

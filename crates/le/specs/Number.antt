@@ -1,6 +1,6 @@
 -- Numbers in a list of bytes. Document 01: "Words are little-endian."
-use Prim.Native.Nat.{ℕ, zero, suc, _+_, _*_}
-use mathlib.Core.List.{List}
+use Prim.Native.Nat.{ℕ, zero, suc, _+_, _*_, _/_, _%_}
+use mathlib.Core.List.{List, [], _∷_}
 use lib.ListN.{getD}
 
 -- The byte at a place; 0 past the end, so that every place has one.
@@ -18,3 +18,8 @@ wordAt s at = number 2 s at
 
 abbrev pub dwordAt : List ℕ → ℕ → ℕ
 dwordAt s at = number 4 s at
+
+-- The lowest `width` bytes of a number, the lowest first.
+abbrev pub bytesOf : ℕ → ℕ → List ℕ
+bytesOf zero n = []
+bytesOf (suc width) n = n % 256 ∷ bytesOf width (n / 256)

@@ -16,7 +16,8 @@ use Rattle.refusal.specs.declared.Refusal.{Refusal}
 use Rattle.refusal.specs.declared.Refusal.the-variants.{NoSuchNumber, NoSuchName, ResidentNames, NonresidentNames}
 use Rattle.tables.specs.Table.{Table, Sound, Unsound, onTable}
 use Rattle.tables.specs.Query.{firstOf, numbered}
-use Rattle.tables.proofs.Query.{all-map, Numbered, numbered-append, first-append, first-through, same-tests, below, numbered-first}
+use Rattle.lists.proofs.All.{all-map}
+use Rattle.tables.proofs.Query.{Numbered, numbered-append, first-append, first-through, same-tests, below, numbered-first}
 use Rattle.header.specs.Header.{headerOf}
 use Rattle.header.specs.declared.Header.{Header}
 use Rattle.header.proofs.Onward.{onward}

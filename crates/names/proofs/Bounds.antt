@@ -19,7 +19,9 @@ use Rattle.refusal.specs.declared.Refusal.{Refusal}
 use Rattle.refusal.specs.declared.Refusal.the-variants.{NoSuchNumber, NoSuchName, ResidentNames, NonresidentNames}
 use Rattle.tables.specs.Table.{Table, Sound, Unsound, onTable}
 use Rattle.tables.specs.Query.{firstOf, numbered}
-use Rattle.tables.proofs.Query.{All, all-map, all-append, Numbered, first-holds, numbered-first, numbered-append}
+use Rattle.lists.specs.Lists.{All}
+use Rattle.lists.proofs.All.{all-map, all-append}
+use Rattle.tables.proofs.Query.{Numbered, first-holds, numbered-first, numbered-append}
 use Rattle.header.specs.Header.{headerOf, onHeader}
 use Rattle.header.specs.declared.Header.{Header}
 use Rattle.header.specs.declared.Answer as header

@@ -11,7 +11,9 @@ use lib.ListN.{length}
 use Rattle.le.specs.Number.{byteAt}
 use Rattle.refusal.specs.declared.Refusal.{Refusal}
 use Rattle.tables.specs.Table.{Place, Next, Sound}
-use Rattle.tables.proofs.Query.{All, all-map, Numbered}
+use Rattle.lists.specs.Lists.{All}
+use Rattle.lists.proofs.All.{all-map}
+use Rattle.tables.proofs.Query.{Numbered}
 use Rattle.tables.proofs.Induction.{sound-table, table-numbers}
 use Rattle.names.specs.declared.Name.{Name}
 use Rattle.names.specs.Names.{nameAt, behind, stepOf, listFrom}

@@ -1,7 +1,7 @@
 -- Document 01, "Refusal numbers and their order": the number of each refusal.
 use Prim.Native.Nat.{ℕ}
 use Rattle.refusal.specs.declared.Refusal.{Refusal}
-use Rattle.refusal.specs.declared.Refusal.the-variants.{ImageShort, ImageLong, NoMz, NePlace, NoNe, Shift, SegmentTable, ModuleTable, EntryTable, NonresidentTable, NoSuchNumber, SegmentOutside, Iterated, AllocationShort, EntryTableEnds, EntryUnsound, OrdinalsOver, NoSuchOrdinal, ResidentNames, NonresidentNames, ImportedString, NoSuchName, ResourceTable, ResourceShift, NoSuchResource, ResourceOutside}
+use Rattle.refusal.specs.declared.Refusal.the-variants.{ImageShort, ImageLong, NoMz, NePlace, NoNe, Shift, SegmentTable, ModuleTable, EntryTable, NonresidentTable, NoSuchNumber, SegmentOutside, Iterated, AllocationShort, EntryTableEnds, EntryUnsound, OrdinalsOver, NoSuchOrdinal, ResidentNames, NonresidentNames, ImportedString, NoSuchName, ResourceTable, ResourceShift, NoSuchResource, ResourceOutside, SelectorsShort, AnswersShort, OutputShort, MarksShort, FixupType, TargetSegment, TargetModule, TargetOrdinal, TargetString, SpanOutside, SpanTaken, SitesOver}
 
 abbrev pub numberOf : Refusal → ℕ
 -- "image under 64 bytes"
@@ -50,3 +50,22 @@ numberOf ResourceShift = 18
 numberOf NoSuchResource = 19
 -- "found resource's data leaves the image"
 numberOf ResourceOutside = 20
+-- "selectors under the segment count, import answers under the record count, output under the allocation, or marks under
+-- the stored length"
+numberOf SelectorsShort = 21
+numberOf AnswersShort = 21
+numberOf OutputShort = 21
+numberOf MarksShort = 21
+-- "fixup type not 0, 2, 3, 5"
+numberOf FixupType = 22
+-- "fixup target doesn't resolve"
+numberOf TargetSegment = 23
+numberOf TargetModule = 23
+numberOf TargetOrdinal = 23
+numberOf TargetString = 23
+-- "span outside the stored bytes"
+numberOf SpanOutside = 24
+-- "span meets an earlier one"
+numberOf SpanTaken = 25
+-- "over 65,536 sites followed"
+numberOf SitesOver = 26

@@ -30,6 +30,18 @@ pub enum Refusal {
     ResourceShift,
     NoSuchResource,
     ResourceOutside,
+    SelectorsShort,
+    AnswersShort,
+    OutputShort,
+    MarksShort,
+    FixupType,
+    TargetSegment,
+    TargetModule,
+    TargetOrdinal,
+    TargetString,
+    SpanOutside,
+    SpanTaken,
+    SitesOver,
 }
 
 // The number of a refusal.
@@ -63,5 +75,17 @@ pub fn number(why: Refusal) -> u32
         Refusal::ResourceShift => 18,
         Refusal::NoSuchResource => 19,
         Refusal::ResourceOutside => 20,
+        Refusal::SelectorsShort => 21,
+        Refusal::AnswersShort => 21,
+        Refusal::OutputShort => 21,
+        Refusal::MarksShort => 21,
+        Refusal::FixupType => 22,
+        Refusal::TargetSegment => 23,
+        Refusal::TargetModule => 23,
+        Refusal::TargetOrdinal => 23,
+        Refusal::TargetString => 23,
+        Refusal::SpanOutside => 24,
+        Refusal::SpanTaken => 25,
+        Refusal::SitesOver => 26,
     }
 }

@@ -15,7 +15,8 @@ use Rattle.checks.specs.Checks.{_⇒_, decide}
 use Rattle.checks.proofs.Impossible.{never}
 use Rattle.tables.specs.Table.{Table, Sound, Unsound, onTable}
 use Rattle.tables.specs.Query.{numbered, firstOf}
-use Rattle.tables.proofs.Query.{all-of, first-holds, numbered-holds}
+use Rattle.lists.proofs.All.{all-of}
+use Rattle.tables.proofs.Query.{first-holds, numbered-holds}
 use Rattle.header.specs.Header.{headerOf, onHeader}
 use Rattle.header.specs.declared.Answer as header
 use Rattle.header.specs.declared.Answer.the-variants as header-answer

@@ -15,7 +15,9 @@ use borrow.Author.Tests.{eq-eqb, ne-eqb}
 use lib.Dec.{eqb}
 use lib.ListN.{length, getD}
 use Rattle.tables.specs.Query.{firstOf, numbered}
-use Rattle.tables.proofs.Query.{All, all-map, Numbered, same-tests, none-taken, below, counted, numbered-lacked, numbered-has}
+use Rattle.lists.specs.Lists.{All}
+use Rattle.lists.proofs.All.{all-map}
+use Rattle.tables.proofs.Query.{Numbered, same-tests, none-taken, below, counted, numbered-lacked, numbered-has}
 use Rattle.resources.specs.declared.Resource.{Resource}
 use Rattle.resources.specs.declared.block.Block.{Block}
 use Rattle.resources.specs.declared.Match.{Match}

@@ -21,24 +21,8 @@ use native.Mathlib.Omega.{arith}
 use borrow.Author.Tests.{eq-eqb, ne-eqb, eqb-true, eqb-false}
 use lib.Dec.{eqb}
 use lib.ListN.{length, getD}
+use Rattle.lists.specs.Lists.{All}
 use Rattle.tables.specs.Query.{numbered, firstOf}
-
--- That something holds of all elements of a list.
-abbrev pub All : {A : Type 0} → (A → Type 0) → List A → Type 0
-All P [] = Unit
-All P (x ∷ xs) = P x × All P xs
-
-pub all-of : {A : Type 0} (P : A → Type 0) → ((x : A) → P x) → (xs : List A) → All P xs
-all-of P h [] = tt
-all-of P h (x ∷ xs) = (h x, all-of P h xs)
-
-pub all-map : {A : Type 0} (P Q : A → Type 0) → ((x : A) → P x → Q x) → (xs : List A) → All P xs → All Q xs
-all-map P Q h [] p = tt
-all-map P Q h (x ∷ xs) p = (h x (p .0), all-map P Q h xs (p .1))
-
-pub all-append : {A : Type 0} (P : A → Type 0) (xs ys : List A) → All P xs → All P ys → All P (xs ++ ys)
-all-append P [] ys p q = q
-all-append P (x ∷ xs) ys p q = (p .0, all-append P xs ys (p .1) q)
 
 -- That the elements of a list have these numbers, one after the other.
 abbrev pub Numbered : {A : Type 0} → (A → ℕ) → ℕ → List A → Type 0

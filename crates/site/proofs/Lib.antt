@@ -1,0 +1,10 @@
+pub mod Runs
+pub mod Spans
+pub mod Bytes
+pub mod Step
+pub mod Order
+pub mod Meets
+pub mod Accept
+pub mod Over
+pub mod Written
+pub mod Count

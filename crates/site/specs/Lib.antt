@@ -1,0 +1,6 @@
+pub mod Site
+pub mod Walk
+pub mod Prepared
+pub mod Step
+pub mod Sound
+pub mod Exact
