@@ -1,10 +1,17 @@
--- The law of a list of checks: an answer that is no refusal says that every check passed.
+-- The laws of a list of checks.
+--     passed     an answer that is no refusal says that every check passed
+--     answered   and is then the one after the last check
+--     decided    where every check passed, that is the answer
 -- Assumes nothing.
 use mathlib.Core.Path.{_≡_, refl, sym, _∙_}
 use mathlib.Core.Bool.{Bool, true, false}
 use mathlib.Core.List.{List, [], _∷_}
 use Rattle.checks.proofs.Impossible.{never}
 use Rattle.checks.specs.Checks.{Check, _⇒_, decide, Passed}
+
+pub decided : {W A : Type 0} (refuse : W → A) (checks : List (Check W)) (a : A) → Passed checks → decide refuse checks a ≡ a
+decided refuse [] a p = refl
+decided refuse ((fails ⇒ why) ∷ rest) a p = rw (p .0) (decided refuse rest a (p .1))
 
 -- `is-refusal` tells refusals from answers.
 module _ {W A : Type 0} (refuse : W → A) (is-refusal : A → Bool) (refused : (why : W) → is-refusal (refuse why) ≡ true) where

@@ -5,4 +5,3 @@ pub mod Induction
 pub mod Follow
 pub mod Resolves
 pub mod Segments
-pub mod Examples

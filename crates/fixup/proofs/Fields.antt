@@ -20,8 +20,13 @@ module _ (part : List ℕ) (index : ℕ) where
       let on : suc (8 * index + i) ≡ 8 * index + suc i = omega arith in
       rw (byte-own i (omega arith), on, number-own width (suc i) (omega arith))
 
+  -- The last field ends at the last of the 8 bytes.
+  last-own : recordAt (bytesAt part index) 0 .last ≡ recordAt part index .last
+  unfolding recordAt
+  last-own = number-own 2 6 (omega arith)
+
   pub own-bytes : recordAt (bytesAt part index) 0 ≡ recordAt part index
   unfolding recordAt
   own-bytes =
       let first : 8 * index + 0 ≡ 8 * index = omega arith in
-      rw (byte-own 0 (omega arith), byte-own 1 (omega arith), number-own 2 2 (omega arith), number-own 2 4 (omega arith), number-own 2 6 (omega arith), first)
+      rw (byte-own 0 (omega arith), byte-own 1 (omega arith), number-own 2 2 (omega arith), number-own 2 4 (omega arith), last-own, first)

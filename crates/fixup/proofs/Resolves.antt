@@ -1,20 +1,22 @@
 -- A record's type and target decide alone whether it is refused, where there are as many selectors as segments.
---     target-listed   a target in a segment names one that the module has
+--     target-cases    what holds of every kind of target holds of a record's; a segment is one that the module has
 --     resolved        a record of a known type whose target resolves is not refused
 --     known           a record that is not refused is of a known type, and its target resolves
+--     refused-as      a record that is refused is so by its type or its target: 22 or 23
 -- Assumes nothing.
 use mathlib.Core.Path.{_≡_, refl, sym, _∙_}
+use mathlib.Core.Logic.{_⊎_, inl, inr}
 use mathlib.Core.Bool.{Bool, true, false, cond}
 use mathlib.Core.List.{List, [], _∷_}
 use Prim.Native.Nat.{ℕ, _≤_, _<_, _%_}
 use native.Mathlib.Omega.{arith}
 use borrow.Author.Tests.{le-ltb}
-use lib.Dec.{eqb}
+use lib.Dec.{ltb, eqb}
 use lib.ListN.{length}
 use Rattle.checks.proofs.Impossible.{never}
 use Rattle.checks.specs.Checks.{_⇒_, decide}
 use Rattle.refusal.specs.declared.Refusal.{Refusal}
-use Rattle.refusal.specs.declared.Refusal.the-variants.{FixupType, TargetSegment, TargetModule}
+use Rattle.refusal.specs.declared.Refusal.the-variants.{FixupType, TargetSegment, TargetModule, TargetOrdinal, TargetString}
 use Rattle.header.specs.Header.{lacks}
 use Rattle.header.specs.declared.Header.{Header}
 use Rattle.header.proofs.Numbered.{has}
@@ -36,62 +38,68 @@ use Rattle.fixup.specs.declared.Target.{Target}
 use Rattle.fixup.specs.declared.Target.the-variants.{Segment, Import, Os, Unresolved}
 use Rattle.fixup.specs.Record.{typedOf}
 use Rattle.fixup.specs.Target.{entryTarget, internalTarget, importTarget, nameTarget, targetOf}
-use Rattle.fixup.specs.Action.{toTarget, ofType, actionOf, KnownType, Resolves}
+use Rattle.refusal.specs.Number.{numberOf}
+use Rattle.fixup.specs.Action.{applyTo, selectorOf, toTarget, ofType, actionOf, KnownType, Resolves}
 
-module _ (image : List ℕ) (h : Header) (r : Record) (segment offset : ℕ) where
-  entry-listed : (a : entry.Answer) → ordinalIn image h (r .last) ≡ a → entryTarget a ≡ Segment segment offset → lacks (h .segments .count) segment ≡ false
-  entry-listed (entries.Accepted e) q z =
-      let same : segment ≡ e .segment = cc in
-      rw same (ordinal-segment image h (r .last) e q)
-  entry-listed (entries.Refused why) q z = never cc
+-- A reason for which a target doesn't resolve: 23.
+abbrev pub TargetReason : Refusal → Type 0
+TargetReason why = numberOf why ≡ 23
 
-  internal-listed : internalTarget image h r ≡ Segment segment offset → lacks (h .segments .count) segment ≡ false
+-- What holds of every kind of target holds of a record's.
+module _ (image : List ℕ) (h : Header) (r : Record) (P : Target → Type 0) (segment-in : (segment offset : ℕ) → lacks (h .segments .count) segment ≡ false → P (Segment segment offset)) (import : P Import) (os : P Os) (lacked : (why : Refusal) → TargetReason why → P (Unresolved why)) where
+  entry-case : (a : entry.Answer) → ordinalIn image h (r .last) ≡ a → P (entryTarget a)
+  entry-case (entries.Accepted e) q = segment-in (e .segment) (e .offset) (ordinal-segment image h (r .last) e q)
+  entry-case (entries.Refused why) q = lacked TargetOrdinal refl
+
+  internal-case : P (internalTarget image h r)
   unfolding internalTarget
-  internal-listed e = go (eqb (r .first % 256) 255) (lacks (h .segments .count) (r .first % 256)) refl e
+  internal-case = go (eqb (r .first % 256) 255) (lacks (h .segments .count) (r .first % 256)) refl
     where
-      go : (ordinal lacking : Bool) → lacks (h .segments .count) (r .first % 256) ≡ lacking → cond ordinal (entryTarget (ordinalIn image h (r .last))) (decide Unresolved ((lacking ⇒ TargetSegment) ∷ []) (Segment (r .first % 256) (r .last))) ≡ Segment segment offset → lacks (h .segments .count) segment ≡ false
-      go true lacking p z = entry-listed (ordinalIn image h (r .last)) refl z
-      go false true p z = never cc
-      go false false p z =
-          let same : segment ≡ r .first % 256 = cc in
-          rw same p
+      go : (ordinal lacking : Bool) → lacks (h .segments .count) (r .first % 256) ≡ lacking → P (cond ordinal (entryTarget (ordinalIn image h (r .last))) (decide Unresolved ((lacking ⇒ TargetSegment) ∷ []) (Segment (r .first % 256) (r .last))))
+      go true lacking p = entry-case (ordinalIn image h (r .last)) refl
+      go false true p = lacked TargetSegment refl
+      go false false p = segment-in (r .first % 256) (r .last) p
 
-  import-elsewhere : (found : Target) → (found ≡ Segment segment offset → ⊥) → importTarget h r found ≡ Segment segment offset → ⊥
-  import-elsewhere found other z = go (lacks (h .modules .count) (r .first)) z
+  import-case : (found : Target) → P found → P (importTarget h r found)
+  import-case found there = go (lacks (h .modules .count) (r .first))
     where
-      go : (t : Bool) → decide Unresolved ((t ⇒ TargetModule) ∷ []) found ≡ Segment segment offset → ⊥
-      go true q = never cc
-      go false q = other q
+      go : (t : Bool) → P (decide Unresolved ((t ⇒ TargetModule) ∷ []) found)
+      go true = lacked TargetModule refl
+      go false = there
 
-  name-elsewhere : (s : Imported) → nameTarget s ≡ Segment segment offset → ⊥
-  name-elsewhere (imported.Sound text) z = never cc
-  name-elsewhere imported.Unsound z = never cc
+  name-case : (s : Imported) → P (nameTarget s)
+  name-case (imported.Sound text) = import
+  name-case imported.Unsound = lacked TargetString refl
 
-  pub target-listed : targetOf image h r ≡ Segment segment offset → lacks (h .segments .count) segment ≡ false
+  pub target-cases : P (targetOf image h r)
   unfolding targetOf
-  target-listed e = go (eqb (r .flags % 4) 0) (eqb (r .flags % 4) 1) (eqb (r .flags % 4) 2) e
+  target-cases = go (eqb (r .flags % 4) 0) (eqb (r .flags % 4) 1) (eqb (r .flags % 4) 2)
     where
-      go : (zero one two : Bool) → cond zero (internalTarget image h r) (cond one (importTarget h r Import) (cond two (importTarget h r (nameTarget (stringAt image h (r .last)))) Os)) ≡ Segment segment offset → lacks (h .segments .count) segment ≡ false
-      go true one two z = internal-listed z
-      go false true two z = absurd (import-elsewhere Import (λ q. never cc) z)
-      go false false true z = absurd (import-elsewhere (nameTarget (stringAt image h (r .last))) (λ q. name-elsewhere (stringAt image h (r .last)) q) z)
-      go false false false z = never cc
+      go : (zero one two : Bool) → P (cond zero (internalTarget image h r) (cond one (importTarget h r Import) (cond two (importTarget h r (nameTarget (stringAt image h (r .last)))) Os)))
+      go true one two = internal-case
+      go false true two = import-case Import import
+      go false false true = import-case (nameTarget (stringAt image h (r .last))) (name-case (stringAt image h (r .last)))
+      go false false false = os
 
 module _ (image : List ℕ) (h : Header) (selectors : List ℕ) (answer : ℕ) (r : Record) where
   pub resolved : h .segments .count ≤ length selectors → KnownType r → Resolves image h r → Resolved (actionOf image h selectors answer r)
   unfolding actionOf
-  resolved enough known target why e = go (typedOf (r .kind)) (targetOf image h r) refl refl e
+  resolved enough known target why e = go (typedOf (r .kind)) refl e
     where
-      go : (typed : Typed) (t : Target) → typedOf (r .kind) ≡ typed → targetOf image h r ≡ t → ofType selectors answer r typed t ≡ Refuse why → ⊥
-      go Unknown t p q z = known p
-      go (Known kind) (Segment segment offset) p q z =
-          let there = has (h .segments .count) segment (target-listed image h r segment offset q) in
+      -- What is asked of a target, for each kind of it.
+      Good : Kind → Target → Type 0
+      Good kind t = ((other : Refusal) → t ≡ Unresolved other → ⊥) → toTarget selectors answer r kind t ≡ Refuse why → ⊥
+
+      in-segment : (kind : Kind) (segment offset : ℕ) → lacks (h .segments .count) segment ≡ false → Good kind (Segment segment offset)
+      in-segment kind segment offset lacked k z =
+          let there = has (h .segments .count) segment lacked in
           let listed : segment ≤ length selectors = omega (arith, there .1) in
           let w = rw (le-ltb _ _ listed) at z in
           never cc
-      go (Known kind) Import p q z = never cc
-      go (Known kind) Os p q z = never cc
-      go (Known kind) (Unresolved other) p q z = target other q
+
+      go : (typed : Typed) → typedOf (r .kind) ≡ typed → ofType selectors answer r typed (targetOf image h r) ≡ Refuse why → ⊥
+      go Unknown p z = known p
+      go (Known kind) p z = target-cases image h r (Good kind) (in-segment kind) (λ k z. never cc) (λ k z. never cc) (λ other reason k z. k other refl) target z
 
   pub known : Resolved (actionOf image h selectors answer r) → KnownType r × Resolves image h r
   unfolding actionOf
@@ -103,3 +111,29 @@ module _ (image : List ℕ) (h : Header) (selectors : List ℕ) (answer : ℕ) (
       go : (typed : Typed) (why : Refusal) → typedOf (r .kind) ≡ typed → targetOf image h r ≡ Unresolved why → ⊥
       go Unknown why p q = go-typed p
       go (Known kind) why p q = ok why (rw (p, q))
+
+  -- The reasons for which a record is refused.
+  pub refused-as : (why : Refusal) → actionOf image h selectors answer r ≡ Refuse why → (numberOf why ≡ 22) ⊎ (numberOf why ≡ 23)
+  unfolding actionOf
+  refused-as why e = go (typedOf (r .kind)) e
+    where
+      Told : Kind → Target → Type 0
+      Told kind t = toTarget selectors answer r kind t ≡ Refuse why → (numberOf why ≡ 22) ⊎ (numberOf why ≡ 23)
+
+      because : (reason : Refusal) → TargetReason reason → Refuse reason ≡ Refuse why → (numberOf why ≡ 22) ⊎ (numberOf why ≡ 23)
+      because reason t z =
+          let same : why ≡ reason = cc in
+          inr (rw same t)
+
+      in-segment : (kind : Kind) (segment offset : ℕ) → lacks (h .segments .count) segment ≡ false → Told kind (Segment segment offset)
+      in-segment kind segment offset lacked z = choose (ltb (length selectors) segment) z
+        where
+          choose : (t : Bool) → decide Refuse ((t ⇒ TargetSegment) ∷ []) (applyTo kind r offset (selectorOf selectors segment)) ≡ Refuse why → (numberOf why ≡ 22) ⊎ (numberOf why ≡ 23)
+          choose true q = because TargetSegment refl q
+          choose false q = never cc
+
+      go : (typed : Typed) → ofType selectors answer r typed (targetOf image h r) ≡ Refuse why → (numberOf why ≡ 22) ⊎ (numberOf why ≡ 23)
+      go Unknown z =
+          let same : why ≡ FixupType = cc in
+          inl (rw same)
+      go (Known kind) z = target-cases image h r (Told kind) (in-segment kind) (λ z. never cc) (λ z. never cc) because z

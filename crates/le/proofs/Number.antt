@@ -4,14 +4,15 @@
 --     number-one    a number of one byte is that byte
 --     number-past   past the end every number is 0
 --     number-below  a number of so many bytes is below 256 to that power
+--     number-bytes  the bytes of a number that they can hold read as that number
 -- Assumes nothing.
-use mathlib.Core.Path.{_≡_, refl}
-use mathlib.Core.List.{List}
-use Prim.Native.Nat.{ℕ, zero, suc, _+_, _*_, _^_, _≤_, _<_}
+use mathlib.Core.Path.{_≡_, refl, _∙_}
+use mathlib.Core.List.{List, _∷_}
+use Prim.Native.Nat.{ℕ, zero, suc, _+_, _*_, _/_, _%_, _^_, _≤_, _<_}
 use native.Mathlib.Nat.{zero-add, suc-add, add-suc, add-zero, one-mul, mul-add, add-assoc, mul-assoc, pow-succ', pow-zero}
 use native.Mathlib.Omega.{arith}
 use lib.ListN.{length, List·getD-eq-default}
-use Rattle.le.specs.Number.{number, byteAt}
+use Rattle.le.specs.Number.{number, byteAt, Bytes, bytesOf}
 
 pub number-add : (a b : ℕ) (s : List ℕ) (at : ℕ) → number (a + b) s at ≡ number a s at + 256 ^ a * number b s (at + a)
 unfolding number
@@ -33,10 +34,24 @@ number-past (suc width) s at h =
     let here : byteAt s at ≡ 0 = List·getD-eq-default s 0 h in
     omega arith
 
-pub number-below : (width : ℕ) (s : List ℕ) (at : ℕ) → ((i : ℕ) → byteAt s i < 256) → number width s at < 256 ^ width
+pub number-below : (width : ℕ) (s : List ℕ) (at : ℕ) → Bytes s → number width s at < 256 ^ width
 unfolding number
 number-below zero s at bytes = omega arith
 number-below (suc width) s at bytes =
     let low : byteAt s at < 256 = bytes at in
     let rest : number width s (suc at) < 256 ^ width = number-below width s (suc at) bytes in
     rw (pow-succ') (omega arith)
+
+number-behind : (width b : ℕ) (s : List ℕ) (at : ℕ) → number width (b ∷ s) (suc at) ≡ number width s at
+unfolding number
+number-behind zero b s at = refl
+number-behind (suc width) b s at = rw (number-behind width b s (suc at))
+
+pub number-bytes : (width n : ℕ) → n < 256 ^ width → number width (bytesOf width n) 0 ≡ n
+unfolding number
+number-bytes zero n h = omega (arith, rw pow-zero at h)
+number-bytes (suc width) n h =
+    let whole : n < 256 * 256 ^ width = rw pow-succ' at h in
+    let rest : number width (bytesOf width (n / 256)) 0 ≡ n / 256 = number-bytes width (n / 256) (omega arith) in
+    let behind : number width (n % 256 ∷ bytesOf width (n / 256)) 1 ≡ n / 256 = number-behind width (n % 256) (bytesOf width (n / 256)) 0 ∙ rest in
+    omega arith

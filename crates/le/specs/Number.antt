@@ -1,11 +1,15 @@
 -- Numbers in a list of bytes. Document 01: "Words are little-endian."
-use Prim.Native.Nat.{ℕ, zero, suc, _+_, _*_, _/_, _%_}
+use Prim.Native.Nat.{ℕ, zero, suc, _+_, _*_, _/_, _%_, _<_}
 use mathlib.Core.List.{List, [], _∷_}
 use lib.ListN.{getD}
 
 -- The byte at a place; 0 past the end, so that every place has one.
 abbrev pub byteAt : List ℕ → ℕ → ℕ
 byteAt s at = getD s at 0
+
+-- That a list consists of bytes.
+abbrev pub Bytes : List ℕ → Type 0
+Bytes s = (i : ℕ) → byteAt s i < 256
 
 -- The number in the `width` bytes from a place on, the lowest byte first.
 unfoldable pub number : ℕ → List ℕ → ℕ → ℕ

@@ -1,3 +1,4 @@
 pub mod All
 pub mod Order
 pub mod Distinct
+pub mod Each

@@ -1,4 +1,5 @@
 -- What is said of a list as a whole.
+use Prim.Native.Nat.{ℕ, zero, suc}
 use mathlib.Core.List.{List, [], _∷_, _++_}
 
 -- That something holds of all elements.
@@ -20,3 +21,8 @@ inTurn f (x ∷ xs) b = inTurn f xs (f x b)
 abbrev pub gathered : {A B : Type 0} → (A → List B) → List A → List B
 gathered f [] = []
 gathered f (x ∷ xs) = f x ++ gathered f xs
+
+-- The list of what each index has, from 0 on.
+abbrev pub each : {A : Type 0} → ℕ → (ℕ → A) → List A
+each zero f = []
+each (suc n) f = f 0 ∷ each n (λ i. f (suc i))

@@ -13,7 +13,7 @@ use borrow.Author.Tests.{eqb-true, eqb-false}
 use lib.Dec.{eqb}
 use lib.ListN.{length, drop, length-drop}
 use lib.Seq.{length-take-le}
-use Rattle.le.specs.Number.{byteAt}
+use Rattle.le.specs.Number.{Bytes}
 use Rattle.checks.proofs.Impossible.{never}
 use Rattle.refusal.specs.declared.Refusal.{Refusal}
 use Rattle.refusal.specs.declared.Refusal.the-variants.{NoSuchNumber, NoSuchName, ResidentNames, NonresidentNames}
@@ -120,7 +120,7 @@ bytes-length image name x e =
     let size : length name ≡ x .len = sym (ap length (a .1)) ∙ text in
     (size, omega (arith, size, a .0 .some))
 
-pub bytes-short : (image name : List ℕ) (x : Name) → ((i : ℕ) → byteAt image i < 256) → nameByBytes image name ≡ Accepted x → length name ≤ 255
+pub bytes-short : (image name : List ℕ) (x : Name) → Bytes image → nameByBytes image name ≡ Accepted x → length name ≤ 255
 bytes-short image name x bytes e =
     let a = bytes-accepted image name x e in
     let size = bytes-length image name x e in

@@ -15,7 +15,7 @@ use Rattle.refusal.specs.declared.Refusal.the-variants.{NoSuchNumber}
 use Rattle.checks.proofs.Impossible.{never}
 use Rattle.checks.specs.Checks.{decide, Passed, _⇒_}
 use Rattle.checks.proofs.Checks.{passed, answered}
-use Rattle.le.specs.Number.{byteAt, wordAt}
+use Rattle.le.specs.Number.{wordAt, Bytes}
 use Rattle.le.proofs.Number.{number-below}
 use Rattle.header.specs.Header.{headerOf, onHeader, lacks}
 use Rattle.header.specs.declared.Header.{Header}
@@ -73,7 +73,7 @@ record-accepted image h index s e =
     rw (record-is image h index s e)
     (inside image h index (passed Refused is-refusal (λ why. refl) checks (Accepted (segmentAt image h index)) (ap is-refusal e)))
 
-pub allocation-full : (image : List ℕ) (h : Header) (index : ℕ) (s : Segment) → recordOf image h index ≡ Accepted s → ((i : ℕ) → byteAt image i < 256) → s .allocation ≤ 65536
+pub allocation-full : (image : List ℕ) (h : Header) (index : ℕ) (s : Segment) → recordOf image h index ≡ Accepted s → Bytes image → s .allocation ≤ 65536
 unfolding segmentAt
 allocation-full image h index s e bytes =
     rw (record-is image h index s e)

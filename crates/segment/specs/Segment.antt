@@ -77,3 +77,8 @@ unfoldable pub segmentOf : List ℕ → ℕ → Answer
 segmentOf image number =
     onHeader (headerOf image) Refused λ h.
     decide Refused ((lacks (h .segments .count) number ⇒ NoSuchNumber) ∷ []) (recordOf image h (number - 1))
+
+-- For whoever goes on from a segment: its refusal, or what follows of it.
+abbrev pub onSegment : {A : Type 0} → Answer → (Refusal → A) → (Segment → A) → A
+onSegment (Accepted s) refuse go = go s
+onSegment (Refused why) refuse go = refuse why

@@ -15,7 +15,7 @@ use Rattle.refusal.specs.declared.Refusal.the-variants.{SpanOutside, SpanTaken,
 use Rattle.lists.specs.Lists.{All}
 use Rattle.lists.proofs.All.{all-front, pairs-front}
 use Rattle.site.specs.Site.{Site, siteOf, endOf, Inside, Apart}
-use Rattle.site.specs.Walk.{Followed, Walk, Walked, isLast, meetsOne, followFrom, followed, walkFrom, walkOf, onFollowed}
+use Rattle.site.specs.Walk.{Followed, Ended, Halted, Walk, Walked, Stopped, isLast, meetsOne, followFrom, followed, walkFrom, walkOf, onFollowed}
 use Rattle.site.specs.Sound.{Chain, last, next, Sites, none, os, refused, single, chain, Resolved, Sound}
 use Rattle.site.specs.declared.Fixup.{Fixup}
 use Rattle.site.specs.declared.Action.{Action}
@@ -56,18 +56,18 @@ module _ (stored : List ℕ) (f : Fixup) where
       chained (one t) = let z : true ≡ false = sym t ∙ p in never cc
       chained (more t h) = h
 
-  pub follow-accepted : (left at : ℕ) (earlier sites : List Site) → Good stored earlier → followFrom left stored f at earlier ≡ Followed.Sites sites → Came stored f at earlier sites
+  pub follow-accepted : (left at : ℕ) (earlier sites : List Site) → Good stored earlier → followFrom left stored f at earlier ≡ Ended sites → Came stored f at earlier sites
   unfolding followFrom
   follow-accepted zero at earlier sites g e = go (ltb (length stored) (endOf (siteOf f at))) (meetsOne (siteOf f at) earlier) e
     where
-      go : (outside taken : Bool) → cond outside (Followed.Stopped SpanOutside) (cond taken (Followed.Stopped SpanTaken) (Followed.Stopped SitesOver)) ≡ Followed.Sites sites → Came stored f at earlier sites
+      go : (outside taken : Bool) → cond outside (Halted SpanOutside) (cond taken (Halted SpanTaken) (Halted SitesOver)) ≡ Ended sites → Came stored f at earlier sites
       go true taken q = never cc
       go false true q = never cc
       go false false q = never cc
   follow-accepted (suc left) at earlier sites g e =
       go (ltb (length stored) (endOf (siteOf f at))) (meetsOne (siteOf f at) earlier) (isLast f (wordAt stored at)) refl refl refl (λ good q. follow-accepted left (wordAt stored at) (earlier ++ siteOf f at ∷ []) sites good q) e
     where
-      go : (outside taken done : Bool) → ltb (length stored) (endOf (siteOf f at)) ≡ outside → meetsOne (siteOf f at) earlier ≡ taken → isLast f (wordAt stored at) ≡ done → (Good stored (earlier ++ siteOf f at ∷ []) → followFrom left stored f (wordAt stored at) (earlier ++ siteOf f at ∷ []) ≡ Followed.Sites sites → Came stored f (wordAt stored at) (earlier ++ siteOf f at ∷ []) sites) → cond outside (Followed.Stopped SpanOutside) (cond taken (Followed.Stopped SpanTaken) (cond done (Followed.Sites (earlier ++ siteOf f at ∷ [])) (followFrom left stored f (wordAt stored at) (earlier ++ siteOf f at ∷ [])))) ≡ Followed.Sites sites → Came stored f at earlier sites
+      go : (outside taken done : Bool) → ltb (length stored) (endOf (siteOf f at)) ≡ outside → meetsOne (siteOf f at) earlier ≡ taken → isLast f (wordAt stored at) ≡ done → (Good stored (earlier ++ siteOf f at ∷ []) → followFrom left stored f (wordAt stored at) (earlier ++ siteOf f at ∷ []) ≡ Ended sites → Came stored f (wordAt stored at) (earlier ++ siteOf f at ∷ []) sites) → cond outside (Halted SpanOutside) (cond taken (Halted SpanTaken) (cond done (Ended (earlier ++ siteOf f at ∷ [])) (followFrom left stored f (wordAt stored at) (earlier ++ siteOf f at ∷ [])))) ≡ Ended sites → Came stored f at earlier sites
       go true taken done p q r ih z = never cc
       go false true done p q r ih z = never cc
       go false false true p q r ih z =
@@ -76,13 +76,13 @@ module _ (stored : List ℕ) (f : Fixup) where
       go false false false p q r ih z = came-on at earlier sites (f .additive) (eqb (wordAt stored at) 0xffff) refl refl r (ih (good-more stored earlier (siteOf f at) g p q) z)
 
   -- The other way: sites that are good are followed to their end.
-  follow-last : (left at : ℕ) (earlier : List Site) → Good stored (earlier ++ siteOf f at ∷ []) → isLast f (wordAt stored at) ≡ true → followFrom (suc left) stored f at earlier ≡ Followed.Sites (earlier ++ siteOf f at ∷ [])
+  follow-last : (left at : ℕ) (earlier : List Site) → Good stored (earlier ++ siteOf f at ∷ []) → isLast f (wordAt stored at) ≡ true → followFrom (suc left) stored f at earlier ≡ Ended (earlier ++ siteOf f at ∷ [])
   unfolding followFrom
   follow-last left at earlier g done =
       let pass = checks-pass stored earlier (siteOf f at) [] g in
       rw (pass .0, pass .1, done)
 
-  follow-chain : (left : ℕ) {at : ℕ} {places : List ℕ} → Chain stored at places → (earlier : List Site) → f .additive ≡ false → length places ≤ left → Good stored (earlier ++ map (siteOf f) places) → followFrom left stored f at earlier ≡ Followed.Sites (earlier ++ map (siteOf f) places)
+  follow-chain : (left : ℕ) {at : ℕ} {places : List ℕ} → Chain stored at places → (earlier : List Site) → f .additive ≡ false → length places ≤ left → Good stored (earlier ++ map (siteOf f) places) → followFrom left stored f at earlier ≡ Ended (earlier ++ map (siteOf f) places)
   unfolding followFrom
   follow-chain zero (last at e) earlier p h g = absurd (omega arith)
   follow-chain zero (next at e c) earlier p h g = absurd (omega arith)
@@ -92,9 +92,9 @@ module _ (stored : List ℕ) (f : Fixup) where
       let on : isLast f (wordAt stored at) ≡ false = rw (p, ne-eqb _ _ e) in
       let snoc = append-snoc earlier (siteOf f at) (map (siteOf f) places) in
       let rest = follow-chain left c (earlier ++ siteOf f at ∷ []) p (omega arith) (rw snoc g) in
-      rw (pass .0, pass .1, on) (rest ∙ ap Followed.Sites snoc)
+      rw (pass .0, pass .1, on) (rest ∙ ap Ended snoc)
 
-  follow-own : (left : ℕ) {at : ℕ} {places : List ℕ} → Own stored f at places → (earlier : List Site) → length places ≤ left → Good stored (earlier ++ map (siteOf f) places) → followFrom left stored f at earlier ≡ Followed.Sites (earlier ++ map (siteOf f) places)
+  follow-own : (left : ℕ) {at : ℕ} {places : List ℕ} → Own stored f at places → (earlier : List Site) → length places ≤ left → Good stored (earlier ++ map (siteOf f) places) → followFrom left stored f at earlier ≡ Ended (earlier ++ map (siteOf f) places)
   follow-own zero (one t) earlier h g = absurd (omega arith)
   follow-own (suc left) {at} (one t) earlier h g = follow-last left at earlier g (rw t)
   follow-own left (more t c) earlier h g = follow-chain left c earlier t h g
@@ -131,10 +131,10 @@ module _ (stored : List ℕ) where
   walk-accepted (Refuse why ∷ actions) number earlier sites g e = never cc
   walk-accepted (Apply f ∷ actions) number earlier sites g e = go (followed stored f earlier) refl (λ between good q. walk-accepted actions (suc number) between sites good q) e
     where
-      go : (r : Followed) → followed stored f earlier ≡ r → ((between : List Site) → Good stored between → walkFrom stored actions (suc number) between ≡ Walked sites → Went stored actions between sites) → onFollowed r (λ why. Walk.Stopped why number) (λ between. walkFrom stored actions (suc number) between) ≡ Walked sites → Went stored (Apply f ∷ actions) earlier sites
-      go (Followed.Stopped why) q ih z = never cc
-      go (Followed.Sites between) q ih z =
-          let c = follow-accepted stored f (65536 - length earlier) (f .site) earlier between g q in
+      go : (r : Followed) → followed stored f earlier ≡ r → ((between : List Site) → Good stored between → walkFrom stored actions (suc number) between ≡ Walked sites → Went stored actions between sites) → onFollowed r (λ why. Stopped why number) (λ between. walkFrom stored actions (suc number) between) ≡ Walked sites → Went stored (Apply f ∷ actions) earlier sites
+      go (Halted why) q ih z = never cc
+      go (Ended between) q ih z =
+          let c = follow-accepted stored f _ (f .site) earlier between g q in
           went-on f actions earlier between sites c (ih between (c .good) z)
 
   module _ (small : length stored ≤ 65536) where
@@ -147,10 +147,10 @@ module _ (stored : List ℕ) where
         let c = length-map places (siteOf f) in
         omega arith
 
-    follow-in : (f : Fixup) (places : List ℕ) (earlier rest : List Site) → Own stored f (f .site) places → Good stored (earlier ++ (map (siteOf f) places ++ rest)) → followed stored f earlier ≡ Followed.Sites (earlier ++ map (siteOf f) places)
+    follow-in : (f : Fixup) (places : List ℕ) (earlier rest : List Site) → Own stored f (f .site) places → Good stored (earlier ++ (map (siteOf f) places ++ rest)) → followed stored f earlier ≡ Ended (earlier ++ map (siteOf f) places)
     follow-in f places earlier rest own g =
         let grouped : Good stored ((earlier ++ map (siteOf f) places) ++ rest) = rw (append-assoc earlier (map (siteOf f) places) rest) g in
-        follow-own stored f (65536 - length earlier) own earlier (enough f places earlier rest g) (good-front grouped)
+        follow-own stored f _ own earlier (enough f places earlier rest g) (good-front grouped)
       where
         good-front : Good stored ((earlier ++ map (siteOf f) places) ++ rest) → Good stored (earlier ++ map (siteOf f) places)
         good-front h = (all-front (Inside stored) (earlier ++ map (siteOf f) places) rest (h .0), pairs-front Apart (earlier ++ map (siteOf f) places) rest (h .1))

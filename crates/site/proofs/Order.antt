@@ -78,6 +78,10 @@ module _ (stored : List ℕ) (allocation : ℕ) (fits : length stored ≤ alloca
       let w = works rest (all-back (Inside stored) mine sites inside) (pairs-back Apart mine sites apart) in
       (rw (one .0, w .0), (one .1, w .1))
 
+  -- The sites that the steps of all records find in the unfixed segment are the sites as stored.
+  pub stored-sites : (actions : List Action) (sound : Sound stored actions) → gathered own actions ≡ sound .sites
+  stored-sites actions sound = works (sound .theirs) (sound .inside) (sound .apart) .0
+
   abbrev carry : Action → List ℕ → List ℕ
   carry a b = inTurn (put stored) (own a) b
 

@@ -13,7 +13,7 @@ use Rattle.checks.proofs.Impossible.{never}
 use Rattle.lists.specs.Lists.{All}
 use Rattle.refusal.specs.declared.Refusal.the-variants.{SpanOutside, SpanTaken, SitesOver}
 use Rattle.site.specs.Site.{Site, siteOf, endOf}
-use Rattle.site.specs.Walk.{Followed, Walk, isLast, meetsOne, followFrom, followed, walkFrom, walkOf, onFollowed}
+use Rattle.site.specs.Walk.{Followed, Ended, Halted, Walk, Stopped, isLast, meetsOne, followFrom, followed, walkFrom, walkOf, onFollowed}
 use Rattle.site.specs.declared.Fixup.{Fixup}
 use Rattle.site.specs.declared.Action.{Action}
 use Rattle.site.specs.declared.Action.the-variants.{Skip, Apply, Refuse}
@@ -25,25 +25,25 @@ module _ (stored : List ℕ) where
   one-more : (earlier : List Site) (s : Site) → Good stored (earlier ++ s ∷ []) → suc (length earlier) ≤ length stored
   one-more earlier s g = omega (arith, sites-few stored (earlier ++ s ∷ []) (g .0) (g .1), length-append earlier (s ∷ []))
 
-  follow-ends : (left : ℕ) (f : Fixup) (at : ℕ) (earlier : List Site) → Good stored earlier → length stored ≤ left + length earlier → followFrom left stored f at earlier ≡ Followed.Stopped SitesOver → ⊥
+  follow-ends : (left : ℕ) (f : Fixup) (at : ℕ) (earlier : List Site) → Good stored earlier → length stored ≤ left + length earlier → followFrom left stored f at earlier ≡ Halted SitesOver → ⊥
   unfolding followFrom
   follow-ends zero f at earlier g room e = go (ltb (length stored) (endOf (siteOf f at))) (meetsOne (siteOf f at) earlier) refl refl e
     where
-      go : (outside taken : Bool) → ltb (length stored) (endOf (siteOf f at)) ≡ outside → meetsOne (siteOf f at) earlier ≡ taken → cond outside (Followed.Stopped SpanOutside) (cond taken (Followed.Stopped SpanTaken) (Followed.Stopped SitesOver)) ≡ Followed.Stopped SitesOver → ⊥
+      go : (outside taken : Bool) → ltb (length stored) (endOf (siteOf f at)) ≡ outside → meetsOne (siteOf f at) earlier ≡ taken → cond outside (Halted SpanOutside) (cond taken (Halted SpanTaken) (Halted SitesOver)) ≡ Halted SitesOver → ⊥
       go true taken p q z = never cc
       go false true p q z = never cc
       go false false p q z = omega (arith, one-more earlier (siteOf f at) (good-more stored earlier (siteOf f at) g p q))
   follow-ends (suc left) f at earlier g room e =
       go (ltb (length stored) (endOf (siteOf f at))) (meetsOne (siteOf f at) earlier) (isLast f (wordAt stored at)) refl refl (λ good q. follow-ends left f (wordAt stored at) (earlier ++ siteOf f at ∷ []) good (omega (arith, length-append earlier (siteOf f at ∷ []))) q) e
     where
-      go : (outside taken done : Bool) → ltb (length stored) (endOf (siteOf f at)) ≡ outside → meetsOne (siteOf f at) earlier ≡ taken → (Good stored (earlier ++ siteOf f at ∷ []) → followFrom left stored f (wordAt stored at) (earlier ++ siteOf f at ∷ []) ≡ Followed.Stopped SitesOver → ⊥) → cond outside (Followed.Stopped SpanOutside) (cond taken (Followed.Stopped SpanTaken) (cond done (Followed.Sites (earlier ++ siteOf f at ∷ [])) (followFrom left stored f (wordAt stored at) (earlier ++ siteOf f at ∷ [])))) ≡ Followed.Stopped SitesOver → ⊥
+      go : (outside taken done : Bool) → ltb (length stored) (endOf (siteOf f at)) ≡ outside → meetsOne (siteOf f at) earlier ≡ taken → (Good stored (earlier ++ siteOf f at ∷ []) → followFrom left stored f (wordAt stored at) (earlier ++ siteOf f at ∷ []) ≡ Halted SitesOver → ⊥) → cond outside (Halted SpanOutside) (cond taken (Halted SpanTaken) (cond done (Ended (earlier ++ siteOf f at ∷ [])) (followFrom left stored f (wordAt stored at) (earlier ++ siteOf f at ∷ [])))) ≡ Halted SitesOver → ⊥
       go true taken done p q ih z = never cc
       go false true done p q ih z = never cc
       go false false true p q ih z = never cc
       go false false false p q ih z = ih (good-more stored earlier (siteOf f at) g p q) z
 
   module _ (small : length stored ≤ 65536) where
-    walk-ends : (actions : List Action) (number : ℕ) (earlier : List Site) (record′ : ℕ) → All (λ a. a ≡ Refuse SitesOver → ⊥) actions → Good stored earlier → walkFrom stored actions number earlier ≡ Walk.Stopped SitesOver record′ → ⊥
+    walk-ends : (actions : List Action) (number : ℕ) (earlier : List Site) (record′ : ℕ) → All (λ a. a ≡ Refuse SitesOver → ⊥) actions → Good stored earlier → walkFrom stored actions number earlier ≡ Stopped SitesOver record′ → ⊥
     unfolding walkFrom
     walk-ends [] number earlier r other g e = never cc
     walk-ends (Skip ∷ actions) number earlier r other g e = walk-ends actions (suc number) earlier r (other .1) g e
@@ -53,10 +53,10 @@ module _ (stored : List ℕ) where
         room : length stored ≤ (65536 - length earlier) + length earlier
         room = omega arith
 
-        go : (w : Followed) → followed stored f earlier ≡ w → ((between : List Site) → Good stored between → walkFrom stored actions (suc number) between ≡ Walk.Stopped SitesOver r → ⊥) → onFollowed w (λ why. Walk.Stopped why number) (λ between. walkFrom stored actions (suc number) between) ≡ Walk.Stopped SitesOver r → ⊥
-        go (Followed.Stopped why) q ih z = follow-ends (65536 - length earlier) f (f .site) earlier g room (q ∙ ap Followed.Stopped (cc))
-        go (Followed.Sites between) q ih z = ih between (follow-accepted stored f (65536 - length earlier) (f .site) earlier between g q .good) z
+        go : (w : Followed) → followed stored f earlier ≡ w → ((between : List Site) → Good stored between → walkFrom stored actions (suc number) between ≡ Stopped SitesOver r → ⊥) → onFollowed w (λ why. Stopped why number) (λ between. walkFrom stored actions (suc number) between) ≡ Stopped SitesOver r → ⊥
+        go (Halted why) q ih z = follow-ends (65536 - length earlier) f (f .site) earlier g room (q ∙ ap Halted (cc))
+        go (Ended between) q ih z = ih between (follow-accepted stored f _ (f .site) earlier between g q .good) z
 
     -- No record is ever stopped by 26, unless its own refusal was that.
-    pub never-over : (actions : List Action) (number : ℕ) → All (λ a. a ≡ Refuse SitesOver → ⊥) actions → walkOf stored actions ≡ Walk.Stopped SitesOver number → ⊥
+    pub never-over : (actions : List Action) (number : ℕ) → All (λ a. a ≡ Refuse SitesOver → ⊥) actions → walkOf stored actions ≡ Stopped SitesOver number → ⊥
     never-over actions number other e = walk-ends actions 1 [] number other (tt, tt) e

@@ -5,7 +5,7 @@
 --                   and each is written as the stored bytes say
 --     single-step   the same for an additive record
 -- Assumes nothing.
-use mathlib.Core.Path.{_≡_, refl, sym, ap, _∙_}
+use mathlib.Core.Path.{_≡_, refl, ap, ap₂, _∙_}
 use mathlib.Core.Bool.{Bool, true, false, cond}
 use mathlib.Core.List.{List, [], _∷_, map}
 use Prim.Native.Nat.{ℕ, zero, suc, _+_, _≤_, _<_}
@@ -80,11 +80,15 @@ word-same : (b stored : List ℕ) (at : ℕ) → byteAt b at ≡ byteAt stored a
 unfolding number
 word-same b stored at e k = rw (e, k)
 
+-- What is written doesn't change with bytes outside the span: it looks at the word there only where the span has two bytes.
+over-two : (kind : Kind) (f : Fixup) (b stored : List ℕ) (at : ℕ) → byteAt b at ≡ byteAt stored at → byteAt b (suc at) ≡ byteAt stored (suc at) → writtenOver kind f (byteAt b at) (wordAt b at) ≡ writtenOver kind f (byteAt stored at) (wordAt stored at)
+over-two kind f b stored at e k = ap₂ (λ byte word. writtenOver kind f byte word) e (word-same b stored at e k)
+
 over-same : (kind : Kind) (additive : Bool) (f : Fixup) (b stored : List ℕ) (at : ℕ) → ((p : ℕ) → at ≤ p → p < at + widthOf kind additive → byteAt b p ≡ byteAt stored p) → writtenOver kind f (byteAt b at) (wordAt b at) ≡ writtenOver kind f (byteAt stored at) (wordAt stored at)
 over-same LowByte additive f b stored at h = rw (h at (omega arith) (omega (arith, wide LowByte additive)))
-over-same Selector additive f b stored at h = refl
-over-same Far additive f b stored at h = rw (word-same b stored at (h at (omega arith) (omega arith)) (h (suc at) (omega arith) (omega arith)))
-over-same Offset additive f b stored at h = rw (word-same b stored at (h at (omega arith) (omega arith)) (h (suc at) (omega arith) (omega arith)))
+over-same Selector additive f b stored at h = over-two Selector f b stored at (h at (omega arith) (omega arith)) (h (suc at) (omega arith) (omega arith))
+over-same Far additive f b stored at h = over-two Far f b stored at (h at (omega arith) (omega arith)) (h (suc at) (omega arith) (omega arith))
+over-same Offset additive f b stored at h = over-two Offset f b stored at (h at (omega arith) (omega arith)) (h (suc at) (omega arith) (omega arith))
 
 written-same : (stored b : List ℕ) (s : Site) → Same stored b s → written b s ≡ written stored s
 unfolding written

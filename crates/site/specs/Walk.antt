@@ -33,18 +33,18 @@ isLast f word = f .additive || eqb word 0xffff
 
 -- What following the sites of a record gives: all sites up to there, or the refusal.
 pub data Followed : Type 0 where
-  Sites : List Site → Followed
-  Stopped : Refusal → Followed
+  Ended : List Site → Followed
+  Halted : Refusal → Followed
 
 -- The sites of a fixup from a place on, behind those of earlier records and places; `left` more may be followed. "26: over
 -- 65,536 sites followed". "The chain is read from the stored bytes".
 unfoldable pub followFrom : ℕ → List ℕ → Fixup → ℕ → List Site → Followed
-followFrom zero stored f at earlier = decide Stopped (siteChecks stored earlier (siteOf f at)) (Stopped SitesOver)
+followFrom zero stored f at earlier = decide Halted (siteChecks stored earlier (siteOf f at)) (Halted SitesOver)
 followFrom (suc left) stored f at earlier =
     let sites = earlier ++ siteOf f at ∷ [] in
     let onward = followFrom left stored f (wordAt stored at) sites in
-    let answer = cond (isLast f (wordAt stored at)) (Sites sites) onward in
-    decide Stopped (siteChecks stored earlier (siteOf f at)) answer
+    let answer = cond (isLast f (wordAt stored at)) (Ended sites) onward in
+    decide Halted (siteChecks stored earlier (siteOf f at)) answer
 
 -- "and starts at the site word."
 abbrev pub followed : List ℕ → Fixup → List Site → Followed
@@ -56,16 +56,16 @@ pub data Walk : Type 0 where
   Stopped : Refusal → ℕ → Walk
 
 abbrev pub onFollowed : {A : Type 0} → Followed → (Refusal → A) → (List Site → A) → A
-onFollowed (Followed.Sites sites) refuse go = go sites
-onFollowed (Followed.Stopped why) refuse go = refuse why
+onFollowed (Ended sites) refuse go = go sites
+onFollowed (Halted why) refuse go = refuse why
 
 -- The records from the one of a number on, behind the sites of the earlier ones.
 unfoldable pub walkFrom : List ℕ → List Action → ℕ → List Site → Walk
 walkFrom stored [] number earlier = Walked earlier
 walkFrom stored (Skip ∷ rest) number earlier = walkFrom stored rest (suc number) earlier
-walkFrom stored (Refuse why ∷ rest) number earlier = Walk.Stopped why number
+walkFrom stored (Refuse why ∷ rest) number earlier = Stopped why number
 walkFrom stored (Apply f ∷ rest) number earlier =
-    onFollowed (followed stored f earlier) (λ why. Walk.Stopped why number) λ sites. walkFrom stored rest (suc number) sites
+    onFollowed (followed stored f earlier) (λ why. Stopped why number) λ sites. walkFrom stored rest (suc number) sites
 
 -- All records, counted from 1.
 abbrev pub walkOf : List ℕ → List Action → Walk

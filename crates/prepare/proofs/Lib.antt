@@ -1,0 +1,7 @@
+pub mod Ready
+pub mod Accept
+pub mod Order
+pub mod Deliver
+pub mod Independent
+pub mod Over
+pub mod Examples

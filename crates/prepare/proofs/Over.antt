@@ -1,0 +1,46 @@
+-- 24 or 25 always comes before 26: once the records are reached, 26 is never given.
+-- Assumes nothing.
+use mathlib.Core.Path.{_≡_, refl, sym, ap, _∙_}
+use mathlib.Core.Logic.{_⊎_, inl, inr}
+use mathlib.Core.List.{List}
+use Prim.Native.Nat.{ℕ, _<_}
+use native.Mathlib.Omega.{arith}
+use Rattle.checks.proofs.Impossible.{never}
+use Rattle.le.specs.Number.{Bytes}
+use Rattle.lists.specs.Lists.{All}
+use Rattle.lists.proofs.Each.{all-each}
+use Rattle.refusal.specs.Number.{numberOf}
+use Rattle.refusal.specs.declared.Refusal.the-variants.{SitesOver}
+use Rattle.header.specs.declared.Header.{Header}
+use Rattle.segment.specs.declared.Segment.{Segment}
+use Rattle.fixup.specs.Record.{recordAt}
+use Rattle.fixup.specs.Action.{actionOf}
+use Rattle.fixup.proofs.Resolves.{refused-as}
+use Rattle.site.specs.Walk.{Walk, Walked, Stopped}
+use Rattle.site.specs.declared.Action.{Action}
+use Rattle.site.specs.declared.Action.the-variants.{Refuse}
+use Rattle.site.proofs.Over.{never-over}
+use Rattle.prepare.specs.Prepare.{Request, Outcome, Refused, storedOf, listOf, answerOf, actionsOf, walkedOf, outcomeOf, prepareOf}
+use Rattle.prepare.specs.Sound.{Ready}
+use Rattle.prepare.proofs.Ready.{is-walked}
+use Rattle.prepare.proofs.Accept.{stored-small}
+
+-- A record is refused as 22 or 23.
+not-over : (q : Request) (h : Header) (s : Segment) (i : ℕ) → actionOf (q .image) h (q .selectors) (answerOf q i) (recordAt (listOf q s) i) ≡ Refuse SitesOver → ⊥
+not-over q h s i e = go (refused-as (q .image) h (q .selectors) (answerOf q i) (recordAt (listOf q s) i) SitesOver e)
+  where
+    go : (_≡_ {A = ℕ} 26 22) ⊎ (_≡_ {A = ℕ} 26 23) → ⊥
+    go (inl z) = omega arith
+    go (inr z) = omega arith
+
+pub never-26 : (q : Request) (h : Header) (s : Segment) → Bytes (q .image) → Ready q h s → (number : ℕ) → prepareOf q ≡ Refused SitesOver number → ⊥
+never-26 q h s bytes ready number e = go (walkedOf q h s) refl (sym (is-walked q h s ready) ∙ e)
+  where
+    others : All (λ a. a ≡ Refuse SitesOver → ⊥) (actionsOf q h s)
+    others = all-each (λ a. a ≡ Refuse SitesOver → ⊥) (s .records) (λ i. actionOf (q .image) h (q .selectors) (answerOf q i) (recordAt (listOf q s) i)) (λ i k z. not-over q h s i z)
+
+    go : (w : Walk) → walkedOf q h s ≡ w → outcomeOf q s w ≡ Refused SitesOver number → ⊥
+    go (Walked sites) p z = never cc
+    go (Stopped why n) p z =
+        let stopped : Stopped why n ≡ Stopped SitesOver number = cc in
+        never-over (storedOf q s) (stored-small q h s ready bytes) (actionsOf q h s) number others (p ∙ stopped)

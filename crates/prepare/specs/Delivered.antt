@@ -1,0 +1,39 @@
+-- Demands 2 and 3: what an accepted segment is.
+use mathlib.Core.Path.{_≡_}
+use mathlib.Core.List.{List, Perm}
+use Prim.Native.Nat.{ℕ, _+_, _≤_, _<_}
+use lib.ListN.{length}
+use Rattle.le.specs.Number.{byteAt}
+use Rattle.lists.specs.Lists.{All}
+use Rattle.header.specs.declared.Header.{Header}
+use Rattle.segment.specs.declared.Segment.{Segment}
+use Rattle.site.specs.Prepared.{unfixed}
+use Rattle.site.specs.Exact.{Exact, Marked, Stands}
+use Rattle.site.specs.Sound.{inChains, singles}
+use Rattle.prepare.specs.Prepare.{Request, storedOf}
+use Rattle.prepare.specs.Sound.{Sound}
+use Rattle.prepare.specs.Step.{Given, givenOf, stepsOf}
+
+pub record Delivered (q : Request) (h : Header) (s : Segment) (count : ℕ) (bytes marks : List ℕ) : Type 0 where
+  pub sound : Sound q h s
+  -- "its stored bytes, zeros up to its allocation, and at each fixup site exactly what the tables put there, nothing else
+  -- changed."
+  pub exact : Exact (storedOf q s) (s .allocation) (sound .sites) bytes
+  pub stands : All (λ x. Stands (x .fixup .kind) (x .fixup .additive) (x .fixup) (storedOf q s) (x .at) bytes) (sound .sites)
+  -- "a mark is 1 exactly at a byte of a span, else 0."
+  pub marked : Marked (q .marks) (sound .sites) marks
+  -- "The reported site count is the number of sites in the stored chains plus the single additive ones, and at most the
+  -- number of stored bytes."
+  pub sum : count ≡ inChains (sound .chains) + singles (sound .chains)
+  pub bound : count ≤ s .stored
+  -- "Carrying out all records by document 01's step, one at a time on the buffer that the last one left, in every order of the
+  -- whole list, ends in exactly the prepared bytes." Each has its own answer; the start is the stored bytes, and zeros up to
+  -- the allocation.
+  pub order : (records : List Given) → Perm (givenOf q s) records → stepsOf q records (unfixed (storedOf q s) (s .allocation)) ≡ bytes
+
+-- What a buffer holds in which a segment was prepared: the segment, and behind it what was there before. "output past the
+-- allocation is unchanged".
+pub record Holds (allocation : ℕ) (bytes before after : List ℕ) : Type 0 where
+  pub size : length after ≡ length before
+  pub segment : (place : ℕ) → place < allocation → byteAt after place ≡ byteAt bytes place
+  pub behind : (place : ℕ) → allocation ≤ place → byteAt after place ≡ byteAt before place

@@ -1,0 +1,6 @@
+pub mod Prepare
+pub mod Step
+pub mod Sound
+pub mod Delivered
+pub mod Alike
+pub mod Examples
