@@ -10,7 +10,7 @@ use mathlib.Core.Bool.{Bool, true, false, cond}
 use mathlib.Core.List.{List, [], _∷_}
 use Prim.Native.Nat.{ℕ, _≤_, _<_, _%_}
 use native.Mathlib.Omega.{arith}
-use borrow.Author.Tests.{le-ltb}
+use borrow.Author.Tests.{le-ltb, eqb-true}
 use lib.Dec.{ltb, eqb}
 use lib.ListN.{length}
 use Rattle.checks.proofs.Impossible.{never}
@@ -30,6 +30,7 @@ use Rattle.imports.specs.declared.Imported.the-variants as imported
 use Rattle.site.specs.declared.Action.{Action}
 use Rattle.site.specs.declared.Action.the-variants.{Skip, Apply, Refuse}
 use Rattle.site.specs.declared.Kind.{Kind}
+use Rattle.site.specs.declared.Kind.the-variants.{LowByte, Selector, Far, Offset}
 use Rattle.site.specs.Sound.{Resolved}
 use Rattle.fixup.specs.declared.Record.{Record}
 use Rattle.fixup.specs.declared.Typed.{Typed}
@@ -81,6 +82,25 @@ module _ (image : List ℕ) (h : Header) (r : Record) (P : Target → Type 0) (s
       go false false true = import-case (nameTarget (stringAt image h (r .last))) (name-case (stringAt image h (r .last)))
       go false false false = os
 
+-- A type is found exactly where it is one of the four.
+type-found : (r : Record) → KnownType r → typedOf (r .kind) ≡ Unknown → ⊥
+unfolding typedOf
+type-found r (inl k) e = let z : Known LowByte ≡ Unknown = rw k at e in never cc
+type-found r (inr (inl k)) e = let z : Known Selector ≡ Unknown = rw k at e in never cc
+type-found r (inr (inr (inl k))) e = let z : Known Far ≡ Unknown = rw k at e in never cc
+type-found r (inr (inr (inr k))) e = let z : Known Offset ≡ Unknown = rw k at e in never cc
+
+found-type : (r : Record) → (typedOf (r .kind) ≡ Unknown → ⊥) → KnownType r
+unfolding typedOf
+found-type r found = go (eqb (r .kind) 0) (eqb (r .kind) 2) (eqb (r .kind) 3) (eqb (r .kind) 5) refl refl refl refl
+  where
+    go : (low selector far offset : Bool) → eqb (r .kind) 0 ≡ low → eqb (r .kind) 2 ≡ selector → eqb (r .kind) 3 ≡ far → eqb (r .kind) 5 ≡ offset → KnownType r
+    go true selector far offset a b c d = inl (eqb-true _ _ a)
+    go false true far offset a b c d = inr (inl (eqb-true _ _ b))
+    go false false true offset a b c d = inr (inr (inl (eqb-true _ _ c)))
+    go false false false true a b c d = inr (inr (inr (eqb-true _ _ d)))
+    go false false false false a b c d = absurd (found (rw (a, b, c, d)))
+
 module _ (image : List ℕ) (h : Header) (selectors : List ℕ) (answer : ℕ) (r : Record) where
   pub resolved : h .segments .count ≤ length selectors → KnownType r → Resolves image h r → Resolved (actionOf image h selectors answer r)
   unfolding actionOf
@@ -98,12 +118,12 @@ module _ (image : List ℕ) (h : Header) (selectors : List ℕ) (answer : ℕ) (
           never cc
 
       go : (typed : Typed) → typedOf (r .kind) ≡ typed → ofType selectors answer r typed (targetOf image h r) ≡ Refuse why → ⊥
-      go Unknown p z = known p
+      go Unknown p z = type-found r known p
       go (Known kind) p z = target-cases image h r (Good kind) (in-segment kind) (λ k z. never cc) (λ k z. never cc) (λ other reason k z. k other refl) target z
 
   pub known : Resolved (actionOf image h selectors answer r) → KnownType r × Resolves image h r
   unfolding actionOf
-  known ok = (λ e. go-typed e, λ why e. go (typedOf (r .kind)) why refl e)
+  known ok = (found-type r go-typed, λ why e. go (typedOf (r .kind)) why refl e)
     where
       go-typed : typedOf (r .kind) ≡ Unknown → ⊥
       go-typed e = ok FixupType (rw e)

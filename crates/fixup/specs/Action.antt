@@ -1,6 +1,7 @@
 -- Document 01: what a record asks for, once the selectors and its import answer are known. "then records in file order: 22,
 -- 23 (unsound or unresolved targets all give 23)".
 use mathlib.Core.Path.{_≡_}
+use mathlib.Core.Logic.{_⊎_}
 use Prim.Native.Nat.{ℕ, _-_, _/_, _%_}
 use mathlib.Core.List.{List, [], _∷_}
 use lib.Dec.{ltb, eqb}
@@ -49,7 +50,7 @@ actionOf image h selectors answer r = ofType selectors answer r (typedOf (r .kin
 
 -- When a record is good: its type is known, and its target resolves.
 abbrev pub KnownType : Record → Type 0
-KnownType r = typedOf (r .kind) ≡ Unknown → ⊥
+KnownType r = (r .kind ≡ 0) ⊎ (r .kind ≡ 2) ⊎ (r .kind ≡ 3) ⊎ (r .kind ≡ 5)
 
 abbrev pub Resolves : List ℕ → Header → Record → Type 0
 Resolves image h r = (why : Refusal) → targetOf image h r ≡ Unresolved why → ⊥

@@ -20,7 +20,7 @@ use Rattle.fixup.specs.Action.{actionOf}
 use Rattle.fixup.proofs.Agree.{agree}
 use Rattle.site.specs.Walk.{Walk, Walked, Stopped}
 use Rattle.prepare.specs.Prepare.{Request, Outcome, refuse, storedOf, listOf, answerOf, actionsOf, sizeChecks, walkedOf, outcomeOf, prepareOf}
-use Rattle.prepare.specs.Alike.{given, Alike}
+use Rattle.prepare.specs.Alike.{withLists, Alike}
 use Rattle.prepare.proofs.Ready.{walked}
 
 module _ (q : Request) (selectors answers : List ℕ) (alike : Alike q selectors answers) where
@@ -29,24 +29,24 @@ module _ (q : Request) (selectors answers : List ℕ) (alike : Alike q selectors
   sized r h s = decide refuse (sizeChecks r h s) (walked r h s)
 
   -- An outcome looks at the lists only through the walk.
-  same-outcome : (s : Segment) (w : Walk) → outcomeOf q s w ≡ outcomeOf (given q selectors answers) s w
+  same-outcome : (s : Segment) (w : Walk) → outcomeOf q s w ≡ outcomeOf (withLists q selectors answers) s w
   same-outcome s (Walked sites) = refl
   same-outcome s (Stopped why number) = refl
 
-  same-segment : (h : Header) (s : Segment) → headerOf (q .image) ≡ headers.Accepted h → recordOf (q .image) h (q .number - 1) ≡ segments.Accepted s → sized q h s ≡ sized (given q selectors answers) h s
+  same-segment : (h : Header) (s : Segment) → headerOf (q .image) ≡ headers.Accepted h → recordOf (q .image) h (q .number - 1) ≡ segments.Accepted s → sized q h s ≡ sized (withLists q selectors answers) h s
   unfolding sizeChecks
   same-segment h s header record′ =
-      let actions : actionsOf q h s ≡ actionsOf (given q selectors answers) h s = each-same (s .records) (λ i. actionOf (q .image) h (q .selectors) (answerOf q i) (recordAt (listOf q s) i)) (λ i. actionOf (q .image) h selectors (getD answers i 0) (recordAt (listOf q s) i)) (λ i k. agree (q .selectors) selectors (answerOf q i) (getD answers i 0) (recordAt (listOf q s) i) (alike .as-many-selectors) (q .image) h (alike .agree h s header record′ i k)) in
-      rw (alike .as-many-selectors, alike .as-many-answers, actions, same-outcome s (walkedOf (given q selectors answers) h s))
+      let actions : actionsOf q h s ≡ actionsOf (withLists q selectors answers) h s = each-same (s .records) (λ i. actionOf (q .image) h (q .selectors) (answerOf q i) (recordAt (listOf q s) i)) (λ i. actionOf (q .image) h selectors (getD answers i 0) (recordAt (listOf q s) i)) (λ i k. agree (q .selectors) selectors (answerOf q i) (getD answers i 0) (recordAt (listOf q s) i) (alike .as-many-selectors) (q .image) h (alike .agree h s header record′ i k)) in
+      rw (alike .as-many-selectors, alike .as-many-answers, actions, same-outcome s (walkedOf (withLists q selectors answers) h s))
 
-  same-answer : (h : Header) → headerOf (q .image) ≡ headers.Accepted h → (a : segment.Answer) → recordOf (q .image) h (q .number - 1) ≡ a → onSegment a refuse (sized q h) ≡ onSegment a refuse (sized (given q selectors answers) h)
+  same-answer : (h : Header) → headerOf (q .image) ≡ headers.Accepted h → (a : segment.Answer) → recordOf (q .image) h (q .number - 1) ≡ a → onSegment a refuse (sized q h) ≡ onSegment a refuse (sized (withLists q selectors answers) h)
   same-answer h header (segments.Accepted s) e = same-segment h s header e
   same-answer h header (segments.Refused why) e = refl
 
-  pub independent : prepareOf q ≡ prepareOf (given q selectors answers)
+  pub independent : prepareOf q ≡ prepareOf (withLists q selectors answers)
   unfolding prepareOf onHeader
   independent = go (headerOf (q .image)) refl
     where
-      go : (a : header.Answer) → headerOf (q .image) ≡ a → prepareOf q ≡ prepareOf (given q selectors answers)
+      go : (a : header.Answer) → headerOf (q .image) ≡ a → prepareOf q ≡ prepareOf (withLists q selectors answers)
       go (headers.Accepted h) e = rw (e, same-answer h e (recordOf (q .image) h (q .number - 1)) refl)
       go (headers.Refused why) e = rw e

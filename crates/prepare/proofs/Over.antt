@@ -10,6 +10,7 @@ use Rattle.le.specs.Number.{Bytes}
 use Rattle.lists.specs.Lists.{All}
 use Rattle.lists.proofs.Each.{all-each}
 use Rattle.refusal.specs.Number.{numberOf}
+use Rattle.refusal.specs.declared.Refusal.{Refusal}
 use Rattle.refusal.specs.declared.Refusal.the-variants.{SitesOver}
 use Rattle.header.specs.declared.Header.{Header}
 use Rattle.segment.specs.declared.Segment.{Segment}
@@ -42,5 +43,5 @@ never-26 q h s bytes ready number e = go (walkedOf q h s) refl (sym (is-walked q
     go : (w : Walk) → walkedOf q h s ≡ w → outcomeOf q s w ≡ Refused SitesOver number → ⊥
     go (Walked sites) p z = never cc
     go (Stopped why n) p z =
-        let stopped : Stopped why n ≡ Stopped SitesOver number = cc in
-        never-over (storedOf q s) (stored-small q h s ready bytes) (actionsOf q h s) number others (p ∙ stopped)
+        let over : why ≡ SitesOver = cc in
+        never-over (storedOf q s) (stored-small q h s ready bytes) (actionsOf q h s) n others (p ∙ ap (λ (w : Refusal). Stopped w n) over)

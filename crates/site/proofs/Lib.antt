@@ -8,3 +8,4 @@ pub mod Accept
 pub mod Over
 pub mod Written
 pub mod Count
+pub mod Shape

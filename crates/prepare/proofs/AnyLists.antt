@@ -1,0 +1,106 @@
+-- What the selectors and the import answers are decides the bytes alone: with any lists of the same lengths the refusal and its
+-- record, or the site count and the marks, are the same.
+--     same-but-bytes   of any two calls
+--     same-acceptance  so where one is accepted, the other is too
+-- Assumes nothing.
+use mathlib.Core.Path.{_≡_, refl, sym, ap, _∙_}
+use mathlib.Core.Bool.{true, false}
+use mathlib.Core.List.{List, [], _∷_, map}
+use Prim.Native.Nat.{ℕ, _-_}
+use lib.ListN.{length, getD, length-map}
+use Rattle.checks.specs.Checks.{Check, _⇒_, decide}
+use Rattle.refusal.specs.declared.Refusal.{Refusal}
+use Rattle.refusal.specs.declared.Refusal.the-variants.{NoSuchNumber}
+use Rattle.tables.specs.Table as tables
+use Rattle.tables.specs.Table.{onTable}
+use Rattle.entry.specs.Table.{EntryTable}
+use Rattle.checks.proofs.Impossible.{never}
+use Rattle.lists.specs.Lists.{each}
+use Rattle.lists.proofs.Each.{each-same, each-mapped}
+use Rattle.header.specs.Header.{headerOf, onHeader, lacks}
+use Rattle.header.specs.declared.Header.{Header}
+use Rattle.header.specs.declared.Answer as header
+use Rattle.header.specs.declared.Answer.the-variants as headers
+use Rattle.segment.specs.Segment.{recordOf, onSegment}
+use Rattle.segment.specs.declared.Segment.{Segment}
+use Rattle.segment.specs.declared.Answer as segment
+use Rattle.segment.specs.declared.Answer.the-variants as segments
+use Rattle.fixup.specs.Record.{recordAt}
+use Rattle.fixup.specs.Action.{actionOf}
+use Rattle.fixup.proofs.Agree.{same-shape}
+use Rattle.site.specs.Walk.{Walk, Walked, Stopped, walkOf}
+use Rattle.site.proofs.Shape.{blankAction, blankSite, blankWalk, walk-blank, marks-blank}
+use Rattle.prepare.specs.Prepare.{Request, Outcome, Prepared, Refused, refuse, storedOf, listOf, answerOf, actionsOf, entriesOf, sizeChecks, walkedOf, outcomeOf, prepareOf}
+use Rattle.prepare.specs.Sound.{Accepts}
+use Rattle.prepare.specs.Alike.{withLists, butBytes}
+use Rattle.prepare.proofs.Ready.{walked}
+
+decide-but : (checks : List (Check Refusal)) (a b : Outcome) → butBytes a ≡ butBytes b → butBytes (decide refuse checks a) ≡ butBytes (decide refuse checks b)
+decide-but [] a b e = e
+decide-but ((true ⇒ why) ∷ rest) a b e = refl
+decide-but ((false ⇒ why) ∷ rest) a b e = decide-but rest a b e
+
+module _ (q : Request) (selectors answers : List ℕ) (as-many-selectors : length (q .selectors) ≡ length selectors) (as-many-answers : length (q .answers) ≡ length answers) where
+  abbrev other : Request
+  other = withLists q selectors answers
+
+  same-actions : (h : Header) (s : Segment) → map blankAction (actionsOf q h s) ≡ map blankAction (actionsOf other h s)
+  same-actions h s =
+      each-mapped (s .records) (λ i. actionOf (q .image) h (q .selectors) (answerOf q i) (recordAt (listOf q s) i)) blankAction
+      ∙ each-same (s .records) (λ i. blankAction (actionOf (q .image) h (q .selectors) (answerOf q i) (recordAt (listOf q s) i))) (λ i. blankAction (actionOf (q .image) h selectors (getD answers i 0) (recordAt (listOf q s) i))) (λ i k. same-shape (q .selectors) selectors (answerOf q i) (getD answers i 0) (recordAt (listOf q s) i) as-many-selectors (q .image) h)
+      ∙ sym (each-mapped (s .records) (λ i. actionOf (q .image) h selectors (getD answers i 0) (recordAt (listOf q s) i)) blankAction)
+
+  same-walk : (h : Header) (s : Segment) → blankWalk (walkedOf q h s) ≡ blankWalk (walkedOf other h s)
+  same-walk h s = walk-blank (storedOf q s) (actionsOf q h s) ∙ ap (walkOf (storedOf q s)) (same-actions h s) ∙ sym (walk-blank (storedOf q s) (actionsOf other h s))
+
+  -- But for its bytes, an outcome looks at no address.
+  outcome-blank : (r : Request) (s : Segment) (w : Walk) → butBytes (outcomeOf r s w) ≡ butBytes (outcomeOf r s (blankWalk w))
+  outcome-blank r s (Walked sites) = rw (length-map sites blankSite, marks-blank (r .marks) sites)
+  outcome-blank r s (Stopped why number) = refl
+
+  other-blank : (s : Segment) (w : Walk) → butBytes (outcomeOf q s w) ≡ butBytes (outcomeOf other s w)
+  other-blank s (Walked sites) = refl
+  other-blank s (Stopped why number) = refl
+
+  same-walked : (h : Header) (s : Segment) → butBytes (walked q h s) ≡ butBytes (walked other h s)
+  same-walked h s =
+      outcome-blank q s (walkedOf q h s)
+      ∙ ap (λ (w : Walk). butBytes (outcomeOf q s w)) (same-walk h s)
+      ∙ other-blank s (blankWalk (walkedOf other h s))
+      ∙ sym (outcome-blank other s (walkedOf other h s))
+
+  same-sizes : (h : Header) (s : Segment) → sizeChecks q h s ≡ sizeChecks other h s
+  unfolding sizeChecks
+  same-sizes h s = rw (as-many-selectors, as-many-answers)
+
+  same-sized : (h : Header) (s : Segment) → butBytes (decide refuse (sizeChecks q h s) (walked q h s)) ≡ butBytes (decide refuse (sizeChecks other h s) (walked other h s))
+  same-sized h s = rw (same-sizes h s) (decide-but (sizeChecks other h s) (walked q h s) (walked other h s) (same-walked h s))
+
+  same-segment : (h : Header) (a : segment.Answer) → butBytes (onSegment a refuse (λ s. decide refuse (sizeChecks q h s) (walked q h s))) ≡ butBytes (onSegment a refuse (λ s. decide refuse (sizeChecks other h s) (walked other h s)))
+  same-segment h (segments.Accepted s) = same-sized h s
+  same-segment h (segments.Refused why) = refl
+
+  same-table : (h : Header) (t : EntryTable) → butBytes (onTable t refuse (λ bundles. onSegment (recordOf (q .image) h (q .number - 1)) refuse (λ s. decide refuse (sizeChecks q h s) (walked q h s)))) ≡ butBytes (onTable t refuse (λ bundles. onSegment (recordOf (q .image) h (q .number - 1)) refuse (λ s. decide refuse (sizeChecks other h s) (walked other h s))))
+  same-table h (tables.Sound bundles) = same-segment h (recordOf (q .image) h (q .number - 1))
+  same-table h (tables.Unsound why) = refl
+
+  pub same-but-bytes : butBytes (prepareOf q) ≡ butBytes (prepareOf other)
+  unfolding prepareOf onHeader
+  same-but-bytes = go (headerOf (q .image)) refl
+    where
+      go : (a : header.Answer) → headerOf (q .image) ≡ a → butBytes (prepareOf q) ≡ butBytes (prepareOf other)
+      go (headers.Accepted h) e = rw e (decide-but ((lacks (h .segments .count) (q .number) ⇒ NoSuchNumber) ∷ []) _ _ (same-table h (entriesOf q h)))
+      go (headers.Refused why) e = rw e
+
+accepted-but : (o o′ : Outcome) → butBytes o ≡ butBytes o′ → (count : ℕ) (bytes marks : List ℕ) → o ≡ Prepared count bytes marks → (bytes′ : List ℕ) × (o′ ≡ Prepared count bytes′ marks)
+accepted-but (Prepared n b m) (Prepared n′ b′ m′) e count bytes marks p =
+    let a : n′ ≡ count = cc in
+    let c : m′ ≡ marks = cc in
+    (b′, rw (a, c))
+accepted-but (Prepared n b m) (Refused why number) e count bytes marks p = never cc
+accepted-but (Refused why number) o′ e count bytes marks p = never cc
+
+pub same-acceptance : (q : Request) (selectors answers : List ℕ) → length (q .selectors) ≡ length selectors → length (q .answers) ≡ length answers → Accepts q → Accepts (withLists q selectors answers)
+same-acceptance q selectors answers e k a =
+    let found = accepted-but (prepareOf q) (prepareOf (withLists q selectors answers)) (same-but-bytes q selectors answers e k) (a .0) (a .1) (a .2) (a .3) in
+    (a .0, found .0, a .2, found .1)
