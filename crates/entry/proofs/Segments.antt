@@ -4,7 +4,7 @@ use mathlib.Core.Path.{_≡_, refl}
 use mathlib.Core.Logic.{_⊎_, inl, inr}
 use mathlib.Core.Bool.{false}
 use mathlib.Core.List.{List, [], _∷_, _++_}
-use Prim.Native.Nat.{ℕ, _+_, _*_, _-_, _<_}
+use Prim.Native.Nat.{ℕ, _-_, _<_}
 use native.Mathlib.Omega.{arith}
 use lib.ListN.{length, drop}
 use Rattle.checks.proofs.Impossible.{never}
@@ -17,12 +17,11 @@ use Rattle.tables.specs.Table.{Place, Next, Sound, Unsound}
 use Rattle.tables.proofs.Induction as tables
 use Rattle.bundle.specs.declared.Bundle.{Bundle}
 use Rattle.bundle.specs.declared.Entry.{Entry}
-use Rattle.bundle.specs.declared.Answer.{Answer}
 use Rattle.bundle.specs.declared.Answer.the-variants.{Accepted, Refused}
 use Rattle.bundle.specs.declared.Step as step
 use Rattle.bundle.specs.declared.Step.the-variants as steps
 use Rattle.bundle.specs.declared.Kind.the-variants.{Null}
-use Rattle.bundle.specs.Bundle.{entryOf, stepOf, unsoundFrom, widthOf}
+use Rattle.bundle.specs.Bundle.{entryOf, stepOf, unsoundFrom}
 use Rattle.bundle.proofs.Went.{entries-sound}
 use Rattle.bundle.proofs.Entries.{entry-sound, entry-segment}
 use Rattle.entry.specs.Table.{EntryTable, asStep, bundleStep, tableOf, slotIn, slotOf, noSlot}

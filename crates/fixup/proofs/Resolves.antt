@@ -4,11 +4,11 @@
 --     known           a record that is not refused is of a known type, and its target resolves
 --     refused-as      a record that is refused is so by its type or its target: 22 or 23
 -- Assumes nothing.
-use mathlib.Core.Path.{_≡_, refl, sym, _∙_}
+use mathlib.Core.Path.{_≡_, refl}
 use mathlib.Core.Logic.{_⊎_, inl, inr}
 use mathlib.Core.Bool.{Bool, true, false, cond}
 use mathlib.Core.List.{List, [], _∷_}
-use Prim.Native.Nat.{ℕ, _≤_, _<_, _%_}
+use Prim.Native.Nat.{ℕ, _≤_, _%_}
 use native.Mathlib.Omega.{arith}
 use borrow.Author.Tests.{le-ltb, eqb-true}
 use lib.Dec.{ltb, eqb}
@@ -27,8 +27,7 @@ use Rattle.entry.proofs.Segments.{ordinal-segment}
 use Rattle.imports.specs.Module.{stringAt}
 use Rattle.imports.specs.declared.Imported.{Imported}
 use Rattle.imports.specs.declared.Imported.the-variants as imported
-use Rattle.site.specs.declared.Action.{Action}
-use Rattle.site.specs.declared.Action.the-variants.{Skip, Apply, Refuse}
+use Rattle.site.specs.declared.Action.the-variants.{Refuse}
 use Rattle.site.specs.declared.Kind.{Kind}
 use Rattle.site.specs.declared.Kind.the-variants.{LowByte, Selector, Far, Offset}
 use Rattle.site.specs.Sound.{Resolved}

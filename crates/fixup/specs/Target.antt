@@ -1,7 +1,7 @@
 -- Document 01, "Target": what a record's target words name. It depends on the image's header and tables and on the record
 -- alone.
 use Prim.Native.Nat.{ℕ, _%_}
-use mathlib.Core.Bool.{Bool, true, false, cond}
+use mathlib.Core.Bool.{cond}
 use mathlib.Core.List.{List, [], _∷_}
 use lib.Dec.{eqb}
 use Rattle.refusal.specs.declared.Refusal.the-variants.{TargetSegment, TargetModule, TargetOrdinal, TargetString}

@@ -6,7 +6,7 @@
 --     turns-gathered   so do the lists of all elements
 --     turns-exchange   what two lists do can be exchanged, where each of one and each of the other can
 -- Assumes nothing.
-use mathlib.Core.Path.{_≡_, refl, sym, _∙_, subst}
+use mathlib.Core.Path.{_≡_, refl, _∙_, subst}
 use mathlib.Core.List.{List, [], _∷_, _++_, List·Permᴰ, List·Permᴰ·nil, List·Permᴰ·cons, List·Permᴰ·swap, List·Permᴰ·trans}
 use Rattle.lists.specs.Lists.{All, Pairs, inTurn, gathered}
 

@@ -7,12 +7,11 @@
 use mathlib.Core.Path.{_≡_, refl, sym, _∙_}
 use mathlib.Core.Logic.{_↔_}
 use mathlib.Core.List.{List}
-use Prim.Native.Nat.{ℕ, _+_, _-_, _≤_, _<_}
+use Prim.Native.Nat.{ℕ, _-_, _≤_, _<_}
 use native.Mathlib.Omega.{arith}
 use lib.ListN.{length, drop, length-take, length-drop}
 use Rattle.checks.proofs.Impossible.{never}
 use Rattle.le.specs.Number.{Bytes}
-use Rattle.lists.specs.Lists.{All, each}
 use Rattle.lists.proofs.Each.{all-each, each-all}
 use Rattle.header.specs.declared.Header.{Header}
 use Rattle.segment.specs.declared.Segment.{Segment}
@@ -24,7 +23,7 @@ use Rattle.site.specs.Site.{Site}
 use Rattle.site.specs.Sound as site
 use Rattle.site.specs.Walk.{Walk, Walked, Stopped}
 use Rattle.site.proofs.Accept.{accepted-sound, sound-accepted}
-use Rattle.prepare.specs.Prepare.{Request, Outcome, Prepared, Refused, storedOf, listOf, recordsOf, answerOf, actionsOf, walkedOf, outcomeOf, prepareOf}
+use Rattle.prepare.specs.Prepare.{Request, Prepared, storedOf, listOf, answerOf, actionsOf, walkedOf, outcomeOf}
 use Rattle.prepare.specs.Sound.{Ready, Sound, Accepts}
 use Rattle.prepare.proofs.Ready.{walked, is-walked, was-ready}
 

@@ -6,34 +6,24 @@
 use mathlib.Core.Path.{_≡_, refl, sym, ap, _∙_}
 use mathlib.Core.Bool.{true, false}
 use mathlib.Core.List.{List, [], _∷_, map}
-use Prim.Native.Nat.{ℕ, _-_}
+use Prim.Native.Nat.{ℕ}
 use lib.ListN.{length, getD, length-map}
 use Rattle.checks.specs.Checks.{Check, _⇒_, decide}
 use Rattle.refusal.specs.declared.Refusal.{Refusal}
-use Rattle.refusal.specs.declared.Refusal.the-variants.{NoSuchNumber}
-use Rattle.tables.specs.Table as tables
-use Rattle.tables.specs.Table.{onTable}
-use Rattle.entry.specs.Table.{EntryTable}
 use Rattle.checks.proofs.Impossible.{never}
-use Rattle.lists.specs.Lists.{each}
 use Rattle.lists.proofs.Each.{each-same, each-mapped}
-use Rattle.header.specs.Header.{headerOf, onHeader, lacks}
 use Rattle.header.specs.declared.Header.{Header}
-use Rattle.header.specs.declared.Answer as header
-use Rattle.header.specs.declared.Answer.the-variants as headers
-use Rattle.segment.specs.Segment.{recordOf, onSegment}
 use Rattle.segment.specs.declared.Segment.{Segment}
-use Rattle.segment.specs.declared.Answer as segment
-use Rattle.segment.specs.declared.Answer.the-variants as segments
 use Rattle.fixup.specs.Record.{recordAt}
 use Rattle.fixup.specs.Action.{actionOf}
 use Rattle.fixup.proofs.Agree.{same-shape}
 use Rattle.site.specs.Walk.{Walk, Walked, Stopped, walkOf}
-use Rattle.site.proofs.Shape.{blankAction, blankSite, blankWalk, walk-blank, marks-blank}
-use Rattle.prepare.specs.Prepare.{Request, Outcome, Prepared, Refused, refuse, storedOf, listOf, answerOf, actionsOf, entriesOf, sizeChecks, walkedOf, outcomeOf, prepareOf}
+use Rattle.site.proofs.Shape.{blankAction, blankWalk, walk-blank, marks-blank}
+use Rattle.prepare.specs.Prepare.{Request, Outcome, Prepared, Refused, refuse, storedOf, listOf, answerOf, actionsOf, sizeChecks, walkedOf, outcomeOf, prepareOf}
 use Rattle.prepare.specs.Sound.{Accepts}
 use Rattle.prepare.specs.Alike.{withLists, butBytes}
 use Rattle.prepare.proofs.Ready.{walked}
+use Rattle.prepare.proofs.Related.{sized, related}
 
 decide-but : (checks : List (Check Refusal)) (a b : Outcome) → butBytes a ≡ butBytes b → butBytes (decide refuse checks a) ≡ butBytes (decide refuse checks b)
 decide-but [] a b e = e
@@ -55,7 +45,7 @@ module _ (q : Request) (selectors answers : List ℕ) (as-many-selectors : lengt
 
   -- But for its bytes, an outcome looks at no address.
   outcome-blank : (r : Request) (s : Segment) (w : Walk) → butBytes (outcomeOf r s w) ≡ butBytes (outcomeOf r s (blankWalk w))
-  outcome-blank r s (Walked sites) = rw (length-map sites blankSite, marks-blank (r .marks) sites)
+  outcome-blank r s (Walked sites) = simp (length-map, marks-blank)
   outcome-blank r s (Stopped why number) = refl
 
   other-blank : (s : Segment) (w : Walk) → butBytes (outcomeOf q s w) ≡ butBytes (outcomeOf other s w)
@@ -73,24 +63,11 @@ module _ (q : Request) (selectors answers : List ℕ) (as-many-selectors : lengt
   unfolding sizeChecks
   same-sizes h s = rw (as-many-selectors, as-many-answers)
 
-  same-sized : (h : Header) (s : Segment) → butBytes (decide refuse (sizeChecks q h s) (walked q h s)) ≡ butBytes (decide refuse (sizeChecks other h s) (walked other h s))
+  same-sized : (h : Header) (s : Segment) → butBytes (sized q h s) ≡ butBytes (sized other h s)
   same-sized h s = rw (same-sizes h s) (decide-but (sizeChecks other h s) (walked q h s) (walked other h s) (same-walked h s))
 
-  same-segment : (h : Header) (a : segment.Answer) → butBytes (onSegment a refuse (λ s. decide refuse (sizeChecks q h s) (walked q h s))) ≡ butBytes (onSegment a refuse (λ s. decide refuse (sizeChecks other h s) (walked other h s)))
-  same-segment h (segments.Accepted s) = same-sized h s
-  same-segment h (segments.Refused why) = refl
-
-  same-table : (h : Header) (t : EntryTable) → butBytes (onTable t refuse (λ bundles. onSegment (recordOf (q .image) h (q .number - 1)) refuse (λ s. decide refuse (sizeChecks q h s) (walked q h s)))) ≡ butBytes (onTable t refuse (λ bundles. onSegment (recordOf (q .image) h (q .number - 1)) refuse (λ s. decide refuse (sizeChecks other h s) (walked other h s))))
-  same-table h (tables.Sound bundles) = same-segment h (recordOf (q .image) h (q .number - 1))
-  same-table h (tables.Unsound why) = refl
-
   pub same-but-bytes : butBytes (prepareOf q) ≡ butBytes (prepareOf other)
-  unfolding prepareOf onHeader
-  same-but-bytes = go (headerOf (q .image)) refl
-    where
-      go : (a : header.Answer) → headerOf (q .image) ≡ a → butBytes (prepareOf q) ≡ butBytes (prepareOf other)
-      go (headers.Accepted h) e = rw e (decide-but ((lacks (h .segments .count) (q .number) ⇒ NoSuchNumber) ∷ []) _ _ (same-table h (entriesOf q h)))
-      go (headers.Refused why) e = rw e
+  same-but-bytes = related q selectors answers (λ o p. butBytes o ≡ butBytes p) (λ o. refl) (λ h s header record′. same-sized h s)
 
 accepted-but : (o o′ : Outcome) → butBytes o ≡ butBytes o′ → (count : ℕ) (bytes marks : List ℕ) → o ≡ Prepared count bytes marks → (bytes′ : List ℕ) × (o′ ≡ Prepared count bytes′ marks)
 accepted-but (Prepared n b m) (Prepared n′ b′ m′) e count bytes marks p =

@@ -3,27 +3,24 @@
 --     output-holds   the output, with what stood in it before behind the allocation
 --     demands        all of it, from acceptance alone
 -- Assumes nothing.
-use mathlib.Core.Path.{_≡_, refl, sym, ap, _∙_}
+use mathlib.Core.Path.{_≡_, sym, _∙_}
 use mathlib.Core.List.{List, _++_, Perm}
 use Prim.Native.Nat.{ℕ, _+_, _-_, _≤_, _<_}
 use native.Mathlib.Omega.{arith}
 use lib.ListN.{length, drop, length-append, length-drop, List·getD-append}
 use lib.Seq.{getD-append-add, getD-drop}
 use Rattle.le.specs.Number.{byteAt}
-use Rattle.lists.specs.Lists.{All}
 use Rattle.lists.proofs.All.{all-map}
 use Rattle.header.specs.declared.Header.{Header}
 use Rattle.segment.specs.declared.Segment.{Segment}
 use Rattle.site.specs.Site.{Site, endOf, Inside}
 use Rattle.site.specs.Prepared.{unfixed, prepared, marked}
-use Rattle.site.specs.Exact.{Exact}
-use Rattle.site.specs.Sound.{inChains, singles}
 use Rattle.site.specs.Walk.{Walked}
 use Rattle.site.proofs.Bytes as bytes-laws
 use Rattle.site.proofs.Written.{all-stand}
 use Rattle.site.proofs.Count.{counted}
 use Rattle.site.proofs.Spans.{sites-few}
-use Rattle.prepare.specs.Prepare.{Request, Outcome, Prepared, storedOf, outcomeOf, prepareOf, outputAfter}
+use Rattle.prepare.specs.Prepare.{Request, Prepared, storedOf, outcomeOf, prepareOf, outputAfter}
 use Rattle.prepare.specs.Sound.{Ready, Sound}
 use Rattle.prepare.specs.Delivered.{Delivered, Holds}
 use Rattle.prepare.specs.Step.{Given, givenOf, stepsOf}

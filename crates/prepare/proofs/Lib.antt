@@ -2,6 +2,7 @@ pub mod Ready
 pub mod Accept
 pub mod Order
 pub mod Deliver
+pub mod Related
 pub mod Independent
 pub mod AnyLists
 pub mod Over

@@ -3,12 +3,12 @@
 --     stored-sites  the sites that each writes in the unfixed segment are those of its stored chain, or its single one
 --     own-sites     each changes only its own record's sites, on any buffer
 -- Assumes nothing.
-use mathlib.Core.Path.{_≡_, refl, sym, ap, _∙_}
+use mathlib.Core.Path.{_≡_, refl, sym, _∙_}
 use mathlib.Core.List.{List, [], _∷_, map, Perm, Perm·map}
-use Prim.Native.Nat.{ℕ, _-_, _≤_, _<_}
+use Prim.Native.Nat.{ℕ}
 use lib.ListN.{length}
 use Rattle.le.specs.Number.{byteAt}
-use Rattle.lists.specs.Lists.{All, inTurn, each, gathered}
+use Rattle.lists.specs.Lists.{All, inTurn, gathered}
 use Rattle.lists.proofs.Each.{each-same, each-mapped}
 use Rattle.header.specs.Header.{headerOf, onHeader}
 use Rattle.header.specs.declared.Header.{Header}
@@ -18,17 +18,17 @@ use Rattle.segment.specs.declared.Segment.{Segment}
 use Rattle.fixup.specs.Record.{recordAt, bytesAt}
 use Rattle.fixup.specs.Action.{actionOf}
 use Rattle.fixup.proofs.Fields.{own-bytes}
-use Rattle.site.specs.Site.{Site, InSpan}
+use Rattle.site.specs.Site.{InSpan}
 use Rattle.site.specs.Prepared.{unfixed, prepared}
 use Rattle.site.specs.Walk.{Walked}
 use Rattle.site.specs.Step as site
 use Rattle.site.specs.declared.Action.{Action}
 use Rattle.site.proofs.Order as site-order
 use Rattle.site.proofs.Step as site-step
-use Rattle.prepare.specs.Prepare.{Request, Outcome, Prepared, storedOf, listOf, answerOf, actionsOf, outcomeOf, prepareOf}
+use Rattle.prepare.specs.Prepare.{Request, Prepared, storedOf, listOf, answerOf, actionsOf, outcomeOf, prepareOf}
 use Rattle.prepare.specs.Sound.{Ready, Sound}
 use Rattle.prepare.specs.Step.{Given, stepOf, visitedOf, givenOf, stepsOf}
-use Rattle.prepare.proofs.Ready.{walked, is-walked}
+use Rattle.prepare.proofs.Ready.{is-walked}
 use Rattle.prepare.proofs.Accept.{stored-fits, to-sites, made}
 
 module _ (q : Request) (h : Header) where

@@ -2,14 +2,12 @@
 -- Assumes nothing.
 use mathlib.Core.Path.{_≡_, refl, sym, ap, _∙_}
 use mathlib.Core.Logic.{_⊎_, inl, inr}
-use mathlib.Core.List.{List}
-use Prim.Native.Nat.{ℕ, _<_}
+use Prim.Native.Nat.{ℕ}
 use native.Mathlib.Omega.{arith}
 use Rattle.checks.proofs.Impossible.{never}
 use Rattle.le.specs.Number.{Bytes}
 use Rattle.lists.specs.Lists.{All}
 use Rattle.lists.proofs.Each.{all-each}
-use Rattle.refusal.specs.Number.{numberOf}
 use Rattle.refusal.specs.declared.Refusal.{Refusal}
 use Rattle.refusal.specs.declared.Refusal.the-variants.{SitesOver}
 use Rattle.header.specs.declared.Header.{Header}
@@ -18,10 +16,9 @@ use Rattle.fixup.specs.Record.{recordAt}
 use Rattle.fixup.specs.Action.{actionOf}
 use Rattle.fixup.proofs.Resolves.{refused-as}
 use Rattle.site.specs.Walk.{Walk, Walked, Stopped}
-use Rattle.site.specs.declared.Action.{Action}
 use Rattle.site.specs.declared.Action.the-variants.{Refuse}
 use Rattle.site.proofs.Over.{never-over}
-use Rattle.prepare.specs.Prepare.{Request, Outcome, Refused, storedOf, listOf, answerOf, actionsOf, walkedOf, outcomeOf, prepareOf}
+use Rattle.prepare.specs.Prepare.{Request, Refused, storedOf, listOf, answerOf, actionsOf, walkedOf, outcomeOf, prepareOf}
 use Rattle.prepare.specs.Sound.{Ready}
 use Rattle.prepare.proofs.Ready.{is-walked}
 use Rattle.prepare.proofs.Accept.{stored-small}

@@ -5,14 +5,11 @@
 use mathlib.Core.Path.{_≡_, refl}
 use mathlib.Core.Bool.{Bool, true, false}
 use mathlib.Core.List.{List, [], _∷_}
-use Prim.Native.Nat.{ℕ, _-_, _≤_}
+use Prim.Native.Nat.{ℕ, _-_}
 use borrow.Author.Tests.{ltb-false, le-ltb}
-use lib.Dec.{ltb}
-use lib.ListN.{length}
 use Rattle.checks.specs.Checks.{_⇒_, decide, Passed}
 use Rattle.checks.proofs.Checks.{passed, answered, decided}
 use Rattle.checks.proofs.Impossible.{never}
-use Rattle.refusal.specs.declared.Refusal.{Refusal}
 use Rattle.refusal.specs.declared.Refusal.the-variants.{NoSuchNumber}
 use Rattle.header.specs.Header.{headerOf, onHeader, lacks}
 use Rattle.header.specs.declared.Header.{Header}

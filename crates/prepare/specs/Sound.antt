@@ -16,7 +16,7 @@ use Rattle.bundle.specs.declared.Bundle.{Bundle}
 use Rattle.fixup.specs.Action.{KnownType, Resolves}
 use Rattle.site.specs.Site.{Site, Inside, Apart}
 use Rattle.site.specs.Sound.{Sites}
-use Rattle.prepare.specs.Prepare.{Request, Outcome, Prepared, prepareOf, entriesOf, storedOf, recordsOf, actionsOf}
+use Rattle.prepare.specs.Prepare.{Request, Prepared, prepareOf, entriesOf, storedOf, recordsOf, actionsOf}
 
 -- The image's own checks, the segment's number and the sizes are passed, and these are the header and the segment.
 pub record Ready (q : Request) (h : Header) (s : Segment) : Type 0 where

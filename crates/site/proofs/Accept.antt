@@ -3,25 +3,25 @@
 use mathlib.Core.Path.{_≡_, refl, sym, ap, _∙_}
 use mathlib.Core.Bool.{Bool, true, false, cond, _||_}
 use mathlib.Core.List.{List, [], _∷_, _++_, map, append-assoc, append-nil}
-use Prim.Native.Nat.{ℕ, zero, suc, _+_, _-_, _≤_, _<_}
+use Prim.Native.Nat.{ℕ, zero, suc, _-_, _≤_}
 use native.Mathlib.Omega.{arith}
 use borrow.Author.Tests.{eqb-true, eqb-false, eq-eqb, ne-eqb}
-use lib.Dec.{ltb, eqb}
+use lib.Dec.{eqb}
 use lib.ListN.{length, length-append, length-map}
 use lib.Seq.{append-snoc}
 use Rattle.le.specs.Number.{wordAt}
 use Rattle.checks.proofs.Impossible.{never}
-use Rattle.refusal.specs.declared.Refusal.the-variants.{SpanOutside, SpanTaken, SitesOver}
+use Rattle.refusal.specs.declared.Refusal.the-variants.{SitesOver}
 use Rattle.lists.specs.Lists.{All}
 use Rattle.lists.proofs.All.{all-front, pairs-front}
-use Rattle.site.specs.Site.{Site, siteOf, endOf, Inside, Apart}
-use Rattle.site.specs.Walk.{Followed, Ended, Halted, Walk, Walked, Stopped, isLast, meetsOne, followFrom, followed, walkFrom, walkOf, onFollowed}
+use Rattle.site.specs.Site.{Site, siteOf, Inside, Apart}
+use Rattle.site.specs.Walk.{Followed, Ended, Halted, Walked, Stopped, isLast, followFrom, followed, walkFrom, walkOf, onFollowed}
 use Rattle.site.specs.Sound.{Chain, last, next, Sites, none, os, refused, single, chain, Resolved, Sound}
 use Rattle.site.specs.declared.Fixup.{Fixup}
 use Rattle.site.specs.declared.Action.{Action}
 use Rattle.site.specs.declared.Action.the-variants.{Skip, Apply, Refuse}
 use Rattle.site.proofs.Spans.{sites-few}
-use Rattle.site.proofs.Meets.{Good, good-more, checks-pass}
+use Rattle.site.proofs.Meets.{Good, site-cases, checks-pass}
 
 -- The places of a fixup's sites from a place on, as stored.
 pub data Own (stored : List ℕ) (f : Fixup) (at : ℕ) : List ℕ → Type 0 where
@@ -58,22 +58,17 @@ module _ (stored : List ℕ) (f : Fixup) where
 
   pub follow-accepted : (left at : ℕ) (earlier sites : List Site) → Good stored earlier → followFrom left stored f at earlier ≡ Ended sites → Came stored f at earlier sites
   unfolding followFrom
-  follow-accepted zero at earlier sites g e = go (ltb (length stored) (endOf (siteOf f at))) (meetsOne (siteOf f at) earlier) e
+  follow-accepted zero at earlier sites g e = site-cases stored earlier (siteOf f at) (Halted SitesOver) (λ w. w ≡ Ended sites → Came stored f at earlier sites) g (λ z. never cc) (λ z. never cc) (λ good z. never cc) e
+  follow-accepted (suc left) at earlier sites g e = site-cases stored earlier (siteOf f at) _ (λ w. w ≡ Ended sites → Came stored f at earlier sites) g (λ z. never cc) (λ z. never cc) (λ good. go good (isLast f (wordAt stored at)) refl (λ z. follow-accepted left (wordAt stored at) (earlier ++ siteOf f at ∷ []) sites good z)) e
     where
-      go : (outside taken : Bool) → cond outside (Halted SpanOutside) (cond taken (Halted SpanTaken) (Halted SitesOver)) ≡ Ended sites → Came stored f at earlier sites
-      go true taken q = never cc
-      go false true q = never cc
-      go false false q = never cc
-  follow-accepted (suc left) at earlier sites g e =
-      go (ltb (length stored) (endOf (siteOf f at))) (meetsOne (siteOf f at) earlier) (isLast f (wordAt stored at)) refl refl refl (λ good q. follow-accepted left (wordAt stored at) (earlier ++ siteOf f at ∷ []) sites good q) e
-    where
-      go : (outside taken done : Bool) → ltb (length stored) (endOf (siteOf f at)) ≡ outside → meetsOne (siteOf f at) earlier ≡ taken → isLast f (wordAt stored at) ≡ done → (Good stored (earlier ++ siteOf f at ∷ []) → followFrom left stored f (wordAt stored at) (earlier ++ siteOf f at ∷ []) ≡ Ended sites → Came stored f (wordAt stored at) (earlier ++ siteOf f at ∷ []) sites) → cond outside (Halted SpanOutside) (cond taken (Halted SpanTaken) (cond done (Ended (earlier ++ siteOf f at ∷ [])) (followFrom left stored f (wordAt stored at) (earlier ++ siteOf f at ∷ [])))) ≡ Ended sites → Came stored f at earlier sites
-      go true taken done p q r ih z = never cc
-      go false true done p q r ih z = never cc
-      go false false true p q r ih z =
+      onward : Followed
+      onward = followFrom left stored f (wordAt stored at) (earlier ++ siteOf f at ∷ [])
+
+      go : Good stored (earlier ++ siteOf f at ∷ []) → (done : Bool) → isLast f (wordAt stored at) ≡ done → (onward ≡ Ended sites → Came stored f (wordAt stored at) (earlier ++ siteOf f at ∷ []) sites) → cond done (Ended (earlier ++ siteOf f at ∷ [])) onward ≡ Ended sites → Came stored f at earlier sites
+      go good true r ih z =
           let is : sites ≡ earlier ++ siteOf f at ∷ [] = cc in
-          rw is (came-last at earlier (good-more stored earlier (siteOf f at) g p q) (f .additive) (eqb (wordAt stored at) 0xffff) refl refl r)
-      go false false false p q r ih z = came-on at earlier sites (f .additive) (eqb (wordAt stored at) 0xffff) refl refl r (ih (good-more stored earlier (siteOf f at) g p q) z)
+          rw is (came-last at earlier good (f .additive) (eqb (wordAt stored at) 0xffff) refl refl r)
+      go good false r ih z = came-on at earlier sites (f .additive) (eqb (wordAt stored at) 0xffff) refl refl r (ih z)
 
   -- The other way: sites that are good are followed to their end.
   follow-last : (left at : ℕ) (earlier : List Site) → Good stored (earlier ++ siteOf f at ∷ []) → isLast f (wordAt stored at) ≡ true → followFrom (suc left) stored f at earlier ≡ Ended (earlier ++ siteOf f at ∷ [])

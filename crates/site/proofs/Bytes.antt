@@ -1,7 +1,7 @@
 -- Demand 2: the bytes of a segment whose sites are sound, and the marks.
 -- Assumes nothing.
-use mathlib.Core.Path.{_≡_, refl, sym, _∙_}
-use mathlib.Core.List.{List, [], _∷_, _++_}
+use mathlib.Core.Path.{_≡_, sym, _∙_}
+use mathlib.Core.List.{List}
 use Prim.Native.Nat.{ℕ, _+_, _-_, _≤_, _<_}
 use native.Mathlib.Omega.{arith}
 use lib.ListN.{length, replicate, length-append, length-replicate, getD-replicate, List·getD-append, List·getD-eq-default}
@@ -9,11 +9,11 @@ use lib.Seq.{getD-append-add}
 use native.Mathlib.Decide.{decLt}
 use Rattle.le.specs.Number.{byteAt}
 use Rattle.le.specs.Slice.{zeros}
-use Rattle.lists.specs.Lists.{All, Pairs, inTurn}
+use Rattle.lists.specs.Lists.{All, Pairs}
 use Rattle.lists.proofs.All.{all-map, pairs-map}
-use Rattle.site.specs.Site.{Site, widthOf, endOf, InSpan, Inside, Apart, written, put}
-use Rattle.site.specs.Prepared.{unfixed, prepared, mark, marked}
-use Rattle.site.specs.Exact.{IsWritten, Exact, Marked}
+use Rattle.site.specs.Site.{Site, widthOf, endOf, InSpan, Inside, Apart, written}
+use Rattle.site.specs.Prepared.{unfixed, prepared, marked}
+use Rattle.site.specs.Exact.{Exact, Marked}
 use Rattle.site.proofs.Runs as runs
 use Rattle.site.proofs.Spans.{within, written-in-span}
 

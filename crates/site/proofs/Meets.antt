@@ -1,9 +1,12 @@
 -- The checks of a site, and what they say: its span lies in the stored bytes and shares no byte with an earlier one.
+--     one-apart     a span that meets no earlier one is apart from all, and apart-one the other way
+--     site-cases    what the checks decide, by cases
+--     checks-pass   a good site passes its checks
 -- Assumes nothing.
 use mathlib.Core.Path.{_≡_, refl}
 use mathlib.Core.Bool.{Bool, true, false, cond, _&&_, _||_}
 use mathlib.Core.List.{List, [], _∷_, _++_}
-use Prim.Native.Nat.{ℕ, _+_, _≤_, _<_, max}
+use Prim.Native.Nat.{ℕ, _<_, max}
 use native.Mathlib.Omega.{arith}
 use borrow.Author.Tests.{ltb-true, ltb-false, lt-ltb, le-ltb}
 use lib.Dec.{ltb}
@@ -11,8 +14,10 @@ use lib.ListN.{length}
 use Rattle.checks.proofs.Impossible.{never}
 use Rattle.lists.specs.Lists.{All, Pairs}
 use Rattle.lists.proofs.All.{all-append, all-back, pairs-append, pairs-across, all-map}
-use Rattle.site.specs.Site.{Site, endOf, InSpan, Inside, Apart}
-use Rattle.site.specs.Walk.{meets, meetsOne}
+use Rattle.site.specs.Site.{Site, endOf, Inside, Apart}
+use Rattle.checks.specs.Checks.{decide}
+use Rattle.refusal.specs.declared.Refusal.the-variants.{SpanOutside, SpanTaken}
+use Rattle.site.specs.Walk.{meets, meetsOne, siteChecks, Followed, Halted}
 use Rattle.site.proofs.Spans.{wide}
 
 -- A place in two spans is below both ends.
@@ -54,10 +59,19 @@ apart-one s (t ∷ ts) a = rw (apart-meets s t (a .0), apart-one s ts (a .1))
 abbrev pub Good : List ℕ → List Site → Type 0
 Good stored sites = All (Inside stored) sites × Pairs Apart sites
 
-pub good-more : (stored : List ℕ) (earlier : List Site) (s : Site) → Good stored earlier → ltb (length stored) (endOf s) ≡ false → meetsOne s earlier ≡ false → Good stored (earlier ++ s ∷ [])
+good-more : (stored : List ℕ) (earlier : List Site) (s : Site) → Good stored earlier → ltb (length stored) (endOf s) ≡ false → meetsOne s earlier ≡ false → Good stored (earlier ++ s ∷ [])
 good-more stored earlier s g inside free =
     let with = all-map (λ t. Apart t s) (λ t. All (Apart t) (s ∷ [])) (λ t h. (h, tt)) earlier (one-apart s earlier free) in
     (all-append (Inside stored) earlier (s ∷ []) (g .0) (ltb-false _ _ inside, tt), pairs-append Apart earlier (s ∷ []) (g .1) (tt, tt) with)
+
+-- What holds of both refusals, and of the answer where the site is good too, holds of what the checks decide.
+pub site-cases : (stored : List ℕ) (earlier : List Site) (s : Site) (answer : Followed) (P : Followed → Type 0) → Good stored earlier → P (Halted SpanOutside) → P (Halted SpanTaken) → (Good stored (earlier ++ s ∷ []) → P answer) → P (decide Halted (siteChecks stored earlier s) answer)
+site-cases stored earlier s answer P g outside taken good = go (ltb (length stored) (endOf s)) (meetsOne s earlier) refl refl
+  where
+    go : (out met : Bool) → ltb (length stored) (endOf s) ≡ out → meetsOne s earlier ≡ met → P (cond out (Halted SpanOutside) (cond met (Halted SpanTaken) answer))
+    go true met p q = outside
+    go false true p q = taken
+    go false false p q = good (good-more stored earlier s g p q)
 
 pub checks-pass : (stored : List ℕ) (earlier : List Site) (s : Site) (rest : List Site) → Good stored (earlier ++ s ∷ rest) → (ltb (length stored) (endOf s) ≡ false) × (meetsOne s earlier ≡ false)
 checks-pass stored earlier s rest g =

@@ -1,25 +1,24 @@
 -- Demand 3: the steps of all records, in every order of the whole list, end in the prepared bytes.
 -- Assumes nothing.
-use mathlib.Core.Path.{_≡_, refl, sym, ap, _∙_}
+use mathlib.Core.Path.{_≡_, refl, sym, _∙_}
 use mathlib.Core.Logic.{∥∥₁-elim}
 use mathlib.Core.HLevel.{hedberg}
 use mathlib.Core.Bool.{true, false}
-use mathlib.Core.List.{List, [], _∷_, _++_, map, Perm, List·Permᴰ, List·isSet}
-use Prim.Native.Nat.{ℕ, _+_, _≤_, _<_}
+use mathlib.Core.List.{List, [], _∷_, map, Perm, List·Permᴰ, List·isSet}
+use Prim.Native.Nat.{ℕ, _≤_}
 use native.Mathlib.Decide.{ℕ-discrete}
 use native.Mathlib.Omega.{arith}
 use lib.ListN.{length, length-map}
-use Rattle.le.specs.Number.{byteAt}
 use Rattle.lists.specs.Lists.{All, Pairs, inTurn, gathered}
 use Rattle.lists.proofs.All.{all-of, all-map, all-front, all-back, pairs-front, pairs-back, pairs-gathered, all-swap, all-both, Across}
 use Rattle.lists.proofs.Order.{all-permuted, pairs-permuted, turns-permuted, turns-gathered, turns-exchange, Exchange}
-use Rattle.site.specs.Site.{Site, siteOf, endOf, InSpan, Inside, Apart, written, put}
+use Rattle.site.specs.Site.{Site, siteOf, Inside, Apart, written, put}
 use Rattle.site.specs.Prepared.{unfixed, prepared}
 use Rattle.site.specs.Step.{stepOf, visited}
 use Rattle.site.specs.Sound.{Chain, Sites, none, os, refused, single, chain, Sound}
 use Rattle.site.specs.declared.Fixup.{Fixup}
 use Rattle.site.specs.declared.Action.{Action}
-use Rattle.site.specs.declared.Action.the-variants.{Skip, Apply, Refuse}
+use Rattle.site.specs.declared.Action.the-variants.{Apply}
 use Rattle.site.proofs.Runs as runs
 use Rattle.site.proofs.Spans.{wide, written-in-span, sites-few}
 use Rattle.site.proofs.Bytes.{unfixed-length, unfixed-at, placeOf}

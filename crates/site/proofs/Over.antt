@@ -4,22 +4,21 @@
 use mathlib.Core.Path.{_≡_, refl, ap, _∙_}
 use mathlib.Core.Bool.{Bool, true, false, cond}
 use mathlib.Core.List.{List, [], _∷_, _++_}
-use Prim.Native.Nat.{ℕ, zero, suc, _+_, _-_, _≤_, _<_}
+use Prim.Native.Nat.{ℕ, zero, suc, _+_, _-_, _≤_}
 use native.Mathlib.Omega.{arith}
-use lib.Dec.{ltb}
 use lib.ListN.{length, length-append}
 use Rattle.le.specs.Number.{wordAt}
 use Rattle.checks.proofs.Impossible.{never}
 use Rattle.lists.specs.Lists.{All}
-use Rattle.refusal.specs.declared.Refusal.the-variants.{SpanOutside, SpanTaken, SitesOver}
-use Rattle.site.specs.Site.{Site, siteOf, endOf}
-use Rattle.site.specs.Walk.{Followed, Ended, Halted, Walk, Stopped, isLast, meetsOne, followFrom, followed, walkFrom, walkOf, onFollowed}
+use Rattle.refusal.specs.declared.Refusal.the-variants.{SitesOver}
+use Rattle.site.specs.Site.{Site, siteOf}
+use Rattle.site.specs.Walk.{Followed, Ended, Halted, Stopped, isLast, followFrom, followed, walkFrom, walkOf, onFollowed}
 use Rattle.site.specs.declared.Fixup.{Fixup}
 use Rattle.site.specs.declared.Action.{Action}
 use Rattle.site.specs.declared.Action.the-variants.{Skip, Apply, Refuse}
 use Rattle.site.proofs.Spans.{sites-few}
-use Rattle.site.proofs.Meets.{Good, good-more}
-use Rattle.site.proofs.Accept.{Came, follow-accepted}
+use Rattle.site.proofs.Meets.{Good, site-cases}
+use Rattle.site.proofs.Accept.{follow-accepted}
 
 module _ (stored : List ℕ) where
   one-more : (earlier : List Site) (s : Site) → Good stored (earlier ++ s ∷ []) → suc (length earlier) ≤ length stored
@@ -27,20 +26,15 @@ module _ (stored : List ℕ) where
 
   follow-ends : (left : ℕ) (f : Fixup) (at : ℕ) (earlier : List Site) → Good stored earlier → length stored ≤ left + length earlier → followFrom left stored f at earlier ≡ Halted SitesOver → ⊥
   unfolding followFrom
-  follow-ends zero f at earlier g room e = go (ltb (length stored) (endOf (siteOf f at))) (meetsOne (siteOf f at) earlier) refl refl e
+  follow-ends zero f at earlier g room e = site-cases stored earlier (siteOf f at) (Halted SitesOver) (λ w. w ≡ Halted SitesOver → ⊥) g (λ z. never cc) (λ z. never cc) (λ good z. omega (arith, one-more earlier (siteOf f at) good)) e
+  follow-ends (suc left) f at earlier g room e = site-cases stored earlier (siteOf f at) _ (λ w. w ≡ Halted SitesOver → ⊥) g (λ z. never cc) (λ z. never cc) (λ good. go (isLast f (wordAt stored at)) (λ z. follow-ends left f (wordAt stored at) (earlier ++ siteOf f at ∷ []) good (omega (arith, length-append earlier (siteOf f at ∷ []))) z)) e
     where
-      go : (outside taken : Bool) → ltb (length stored) (endOf (siteOf f at)) ≡ outside → meetsOne (siteOf f at) earlier ≡ taken → cond outside (Halted SpanOutside) (cond taken (Halted SpanTaken) (Halted SitesOver)) ≡ Halted SitesOver → ⊥
-      go true taken p q z = never cc
-      go false true p q z = never cc
-      go false false p q z = omega (arith, one-more earlier (siteOf f at) (good-more stored earlier (siteOf f at) g p q))
-  follow-ends (suc left) f at earlier g room e =
-      go (ltb (length stored) (endOf (siteOf f at))) (meetsOne (siteOf f at) earlier) (isLast f (wordAt stored at)) refl refl (λ good q. follow-ends left f (wordAt stored at) (earlier ++ siteOf f at ∷ []) good (omega (arith, length-append earlier (siteOf f at ∷ []))) q) e
-    where
-      go : (outside taken done : Bool) → ltb (length stored) (endOf (siteOf f at)) ≡ outside → meetsOne (siteOf f at) earlier ≡ taken → (Good stored (earlier ++ siteOf f at ∷ []) → followFrom left stored f (wordAt stored at) (earlier ++ siteOf f at ∷ []) ≡ Halted SitesOver → ⊥) → cond outside (Halted SpanOutside) (cond taken (Halted SpanTaken) (cond done (Ended (earlier ++ siteOf f at ∷ [])) (followFrom left stored f (wordAt stored at) (earlier ++ siteOf f at ∷ [])))) ≡ Halted SitesOver → ⊥
-      go true taken done p q ih z = never cc
-      go false true done p q ih z = never cc
-      go false false true p q ih z = never cc
-      go false false false p q ih z = ih (good-more stored earlier (siteOf f at) g p q) z
+      onward : Followed
+      onward = followFrom left stored f (wordAt stored at) (earlier ++ siteOf f at ∷ [])
+
+      go : (done : Bool) → (onward ≡ Halted SitesOver → ⊥) → cond done (Ended (earlier ++ siteOf f at ∷ [])) onward ≡ Halted SitesOver → ⊥
+      go true ih z = never cc
+      go false ih z = ih z
 
   module _ (small : length stored ≤ 65536) where
     walk-ends : (actions : List Action) (number : ℕ) (earlier : List Site) (record′ : ℕ) → All (λ a. a ≡ Refuse SitesOver → ⊥) actions → Good stored earlier → walkFrom stored actions number earlier ≡ Stopped SitesOver record′ → ⊥

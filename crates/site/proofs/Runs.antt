@@ -4,7 +4,7 @@
 --     there         where no byte is hit twice, each run stands in the list at the end
 --     exchange      two runs that hit no byte both can be stored in either order
 -- Assumes nothing.
-use mathlib.Core.Path.{_≡_, refl, sym, _∙_}
+use mathlib.Core.Path.{_≡_, refl, _∙_}
 use mathlib.Core.List.{List, [], _∷_}
 use Prim.Native.Nat.{ℕ, zero, suc, _+_, _≤_, _<_}
 use native.Mathlib.Omega.{arith}

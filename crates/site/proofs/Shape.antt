@@ -1,7 +1,7 @@
 -- What a walk finds doesn't depend on the addresses that the targets resolved to: with all of them 0, it stops for the same
 -- reason at the same record, or finds as many sites with the same marks.
 -- Assumes nothing.
-use mathlib.Core.Path.{_≡_, refl, ap, _∙_}
+use mathlib.Core.Path.{_≡_, refl}
 use mathlib.Core.Bool.{Bool, true, false, cond}
 use mathlib.Core.List.{List, [], _∷_, _++_, map, map-append}
 use Prim.Native.Nat.{ℕ, zero, suc, _-_}

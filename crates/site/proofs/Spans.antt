@@ -3,16 +3,15 @@
 --     within           what is written lies in the span
 --     sites-few        spans that lie in the stored bytes and share no byte are at most as many as there are bytes
 -- Assumes nothing.
-use mathlib.Core.Path.{_≡_, refl}
 use mathlib.Core.Bool.{Bool, true, false}
 use mathlib.Core.List.{List, [], _∷_, map}
-use Prim.Native.Nat.{ℕ, _+_, _≤_, _<_}
+use Prim.Native.Nat.{ℕ, _≤_, _<_}
 use native.Mathlib.Omega.{arith}
 use lib.ListN.{length, length-map}
 use Rattle.lists.specs.Lists.{All, Pairs}
 use Rattle.lists.proofs.All.{all-map, all-mapped}
 use Rattle.lists.proofs.Distinct.{Differ, few}
-use Rattle.site.specs.Site.{Site, widthOf, endOf, InSpan, Inside, Apart, writtenOver, written}
+use Rattle.site.specs.Site.{Site, widthOf, InSpan, Inside, Apart, writtenOver, written}
 use Rattle.site.specs.Exact.{IsWritten}
 use Rattle.site.specs.declared.Kind.{Kind}
 use Rattle.site.specs.declared.Kind.the-variants.{LowByte, Selector, Far, Offset}

@@ -13,7 +13,7 @@ use native.Mathlib.Omega.{arith}
 use borrow.Author.Tests.{le-ltb, eq-eqb, ne-eqb}
 use lib.Dec.{ltb}
 use lib.ListN.{length}
-use lib.Seq.{sets, length-sets}
+use lib.Seq.{length-sets}
 use Rattle.le.specs.Number.{number, byteAt, wordAt}
 use Rattle.lists.specs.Lists.{All, Pairs, inTurn}
 use Rattle.lists.proofs.All.{all-map, all-both}
