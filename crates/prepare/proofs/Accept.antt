@@ -16,14 +16,13 @@ use Rattle.lists.proofs.Each.{all-each, each-all}
 use Rattle.header.specs.declared.Header.{Header}
 use Rattle.segment.specs.declared.Segment.{Segment}
 use Rattle.segment.proofs.Bounds.{record-accepted, allocation-full}
-use Rattle.fixup.specs.Record.{recordAt}
-use Rattle.fixup.specs.Action.{actionOf, KnownType, Resolves}
+use Rattle.fixup.specs.Action.{KnownType, Resolves}
 use Rattle.fixup.proofs.Resolves as fixup
 use Rattle.site.specs.Site.{Site}
 use Rattle.site.specs.Sound as site
 use Rattle.site.specs.Walk.{Walk, Walked, Stopped}
 use Rattle.site.proofs.Accept.{accepted-sound, sound-accepted}
-use Rattle.prepare.specs.Prepare.{Request, Prepared, storedOf, listOf, answerOf, actionsOf, walkedOf, outcomeOf}
+use Rattle.prepare.specs.Prepare.{Request, Prepared, storedOf, recordIn, actionIn, answerOf, actionsOf, walkedOf, outcomeOf}
 use Rattle.prepare.specs.Sound.{Ready, Sound, Accepts}
 use Rattle.prepare.proofs.Ready.{walked, is-walked, was-ready}
 
@@ -43,29 +42,29 @@ module _ (q : Request) (h : Header) (s : Segment) (ready : Ready q h s) where
   unfoldable pub to-sites : Sound q h s → site.Sound (storedOf q s) (actionsOf q h s)
   to-sites sound =
       record {
-        resolved = all-each site.Resolved (s .records) (λ i. actionOf (q .image) h (q .selectors) (answerOf q i) (recordAt (listOf q s) i)) good;
+        resolved = all-each site.Resolved (s .records) (actionIn q h s) good;
         sites = sound .sites;
         theirs = sound .chains;
         inside = sound .inside;
         apart = sound .apart;
       }
     where
-      good : (i : ℕ) → i < s .records → site.Resolved (actionOf (q .image) h (q .selectors) (answerOf q i) (recordAt (listOf q s) i))
-      good i k = fixup.resolved (q .image) h (q .selectors) (answerOf q i) (recordAt (listOf q s) i) (ready .selectors) (each-all KnownType (s .records) (λ i. recordAt (listOf q s) i) (sound .types) i k) (each-all (Resolves (q .image) h) (s .records) (λ i. recordAt (listOf q s) i) (sound .targets) i k)
+      good : (i : ℕ) → i < s .records → site.Resolved (actionIn q h s i)
+      good i k = fixup.resolved (q .image) h (q .selectors) (answerOf q i) (recordIn q s i) (ready .selectors) (each-all KnownType (s .records) (recordIn q s) (sound .types) i k) (each-all (Resolves (q .image) h) (s .records) (recordIn q s) (sound .targets) i k)
 
   pub from-sites : site.Sound (storedOf q s) (actionsOf q h s) → Sound q h s
   from-sites sound =
       record {
-        types = all-each KnownType (s .records) (λ i. recordAt (listOf q s) i) (λ i k. known i k .0);
-        targets = all-each (Resolves (q .image) h) (s .records) (λ i. recordAt (listOf q s) i) (λ i k. known i k .1);
+        types = all-each KnownType (s .records) (recordIn q s) (λ i k. known i k .0);
+        targets = all-each (Resolves (q .image) h) (s .records) (recordIn q s) (λ i k. known i k .1);
         sites = sound .sites;
         chains = sound .theirs;
         inside = sound .inside;
         apart = sound .apart;
       }
     where
-      known : (i : ℕ) → i < s .records → KnownType (recordAt (listOf q s) i) × Resolves (q .image) h (recordAt (listOf q s) i)
-      known i k = fixup.known (q .image) h (q .selectors) (answerOf q i) (recordAt (listOf q s) i) (each-all site.Resolved (s .records) (λ i. actionOf (q .image) h (q .selectors) (answerOf q i) (recordAt (listOf q s) i)) (sound .resolved) i k)
+      known : (i : ℕ) → i < s .records → KnownType (recordIn q s i) × Resolves (q .image) h (recordIn q s i)
+      known i k = fixup.known (q .image) h (q .selectors) (answerOf q i) (recordIn q s i) (each-all site.Resolved (s .records) (actionIn q h s) (sound .resolved) i k)
 
   -- What an accepted segment is made from.
   pub made : (sites : ℕ) (bytes marks : List ℕ) → walked q h s ≡ Prepared sites bytes marks → (sound : Sound q h s) × (Prepared sites bytes marks ≡ outcomeOf q s (Walked (sound .sites)))

@@ -14,12 +14,10 @@ use Rattle.checks.proofs.Impossible.{never}
 use Rattle.lists.proofs.Each.{each-same, each-mapped}
 use Rattle.header.specs.declared.Header.{Header}
 use Rattle.segment.specs.declared.Segment.{Segment}
-use Rattle.fixup.specs.Record.{recordAt}
-use Rattle.fixup.specs.Action.{actionOf}
 use Rattle.fixup.proofs.Agree.{same-shape}
 use Rattle.site.specs.Walk.{Walk, Walked, Stopped, walkOf}
 use Rattle.site.proofs.Shape.{blankAction, blankWalk, walk-blank, marks-blank}
-use Rattle.prepare.specs.Prepare.{Request, Outcome, Prepared, Refused, refuse, storedOf, listOf, answerOf, actionsOf, sizeChecks, walkedOf, outcomeOf, prepareOf}
+use Rattle.prepare.specs.Prepare.{Request, Outcome, Prepared, Refused, refuse, storedOf, recordIn, actionIn, answerOf, actionsOf, sizeChecks, walkedOf, outcomeOf, prepareOf}
 use Rattle.prepare.specs.Sound.{Accepts}
 use Rattle.prepare.specs.Alike.{withLists, butBytes}
 use Rattle.prepare.proofs.Ready.{walked}
@@ -36,9 +34,9 @@ module _ (q : Request) (selectors answers : List ℕ) (as-many-selectors : lengt
 
   same-actions : (h : Header) (s : Segment) → map blankAction (actionsOf q h s) ≡ map blankAction (actionsOf other h s)
   same-actions h s =
-      each-mapped (s .records) (λ i. actionOf (q .image) h (q .selectors) (answerOf q i) (recordAt (listOf q s) i)) blankAction
-      ∙ each-same (s .records) (λ i. blankAction (actionOf (q .image) h (q .selectors) (answerOf q i) (recordAt (listOf q s) i))) (λ i. blankAction (actionOf (q .image) h selectors (getD answers i 0) (recordAt (listOf q s) i))) (λ i k. same-shape (q .selectors) selectors (answerOf q i) (getD answers i 0) (recordAt (listOf q s) i) as-many-selectors (q .image) h)
-      ∙ sym (each-mapped (s .records) (λ i. actionOf (q .image) h selectors (getD answers i 0) (recordAt (listOf q s) i)) blankAction)
+      each-mapped (s .records) (actionIn q h s) blankAction
+      ∙ each-same (s .records) (λ i. blankAction (actionIn q h s i)) (λ i. blankAction (actionIn (withLists q selectors answers) h s i)) (λ i k. same-shape (q .selectors) selectors (answerOf q i) (getD answers i 0) (recordIn q s i) as-many-selectors (q .image) h)
+      ∙ sym (each-mapped (s .records) (actionIn (withLists q selectors answers) h s) blankAction)
 
   same-walk : (h : Header) (s : Segment) → blankWalk (walkedOf q h s) ≡ blankWalk (walkedOf other h s)
   same-walk h s = walk-blank (storedOf q s) (actionsOf q h s) ∙ ap (walkOf (storedOf q s)) (same-actions h s) ∙ sym (walk-blank (storedOf q s) (actionsOf other h s))

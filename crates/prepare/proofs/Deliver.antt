@@ -4,7 +4,7 @@
 --     demands        all of it, from acceptance alone
 -- Assumes nothing.
 use mathlib.Core.Path.{_≡_, sym, _∙_}
-use mathlib.Core.List.{List, _++_, Perm}
+use mathlib.Core.List.{List, _++_}
 use Prim.Native.Nat.{ℕ, _+_, _-_, _≤_, _<_}
 use native.Mathlib.Omega.{arith}
 use lib.ListN.{length, drop, length-append, length-drop, List·getD-append}
@@ -14,7 +14,7 @@ use Rattle.lists.proofs.All.{all-map}
 use Rattle.header.specs.declared.Header.{Header}
 use Rattle.segment.specs.declared.Segment.{Segment}
 use Rattle.site.specs.Site.{Site, endOf, Inside}
-use Rattle.site.specs.Prepared.{unfixed, prepared, marked}
+use Rattle.site.specs.Prepared.{prepared, marked}
 use Rattle.site.specs.Walk.{Walked}
 use Rattle.site.proofs.Bytes as bytes-laws
 use Rattle.site.proofs.Written.{all-stand}
@@ -23,17 +23,13 @@ use Rattle.site.proofs.Spans.{sites-few}
 use Rattle.prepare.specs.Prepare.{Request, Prepared, storedOf, outcomeOf, prepareOf, outputAfter}
 use Rattle.prepare.specs.Sound.{Ready, Sound}
 use Rattle.prepare.specs.Delivered.{Delivered, Holds}
-use Rattle.prepare.specs.Step.{Given, givenOf, stepsOf}
+use Rattle.prepare.specs.Step.{EveryOrder}
 use Rattle.prepare.proofs.Ready.{is-walked, was-ready}
 use Rattle.prepare.proofs.Accept.{stored-length, stored-fits, made}
 use Rattle.prepare.proofs.Order.{every-order}
 
--- That the steps of all records in every order end in these bytes.
-abbrev Every : Request → Segment → List ℕ → Type 0
-Every q s bytes = (records : List Given) → Perm (givenOf q s) records → stepsOf q records (unfixed (storedOf q s) (s .allocation)) ≡ bytes
-
 module _ (q : Request) (h : Header) (s : Segment) (ready : Ready q h s) where
-  from-sound : (sound : Sound q h s) → Every q s (prepared (storedOf q s) (s .allocation) (sound .sites)) → Delivered q h s (length (sound .sites)) (prepared (storedOf q s) (s .allocation) (sound .sites)) (marked (q .marks) (sound .sites))
+  from-sound : (sound : Sound q h s) → EveryOrder q s (prepared (storedOf q s) (s .allocation) (sound .sites)) → Delivered q h s (length (sound .sites)) (prepared (storedOf q s) (s .allocation) (sound .sites)) (marked (q .marks) (sound .sites))
   from-sound sound order =
       let exact = bytes-laws.exactly (storedOf q s) (s .allocation) (stored-fits q h s ready) (sound .sites) (sound .inside) (sound .apart) in
       let few = sites-few (storedOf q s) (sound .sites) (sound .inside) (sound .apart) in
@@ -50,12 +46,12 @@ module _ (q : Request) (h : Header) (s : Segment) (ready : Ready q h s) where
       room : (x : Site) → Inside (storedOf q s) x → endOf x ≤ q .marks
       room x k = omega (arith, stored-length q h s ready, ready .marks)
 
-  pub delivered : (count : ℕ) (bytes marks : List ℕ) → prepareOf q ≡ Prepared count bytes marks → Delivered q h s count bytes marks
-  delivered count bytes marks e =
+  pub delivered : {count : ℕ} {bytes marks : List ℕ} → prepareOf q ≡ Prepared count bytes marks → Delivered q h s count bytes marks
+  delivered {count} {bytes} {marks} e =
       let m = made q h s ready count bytes marks (sym (is-walked q h s ready) ∙ e) in
-      go (m .0) (m .1) (every-order q h s ready count bytes marks e)
+      go (m .0) (m .1) (every-order q h s ready e)
     where
-      go : (sound : Sound q h s) → Prepared count bytes marks ≡ outcomeOf q s (Walked (sound .sites)) → Every q s bytes → Delivered q h s count bytes marks
+      go : (sound : Sound q h s) → Prepared count bytes marks ≡ outcomeOf q s (Walked (sound .sites)) → EveryOrder q s bytes → Delivered q h s count bytes marks
       go sound is order =
           let a : count ≡ length (sound .sites) = cc in
           let b : bytes ≡ prepared (storedOf q s) (s .allocation) (sound .sites) = cc in
@@ -63,11 +59,11 @@ module _ (q : Request) (h : Header) (s : Segment) (ready : Ready q h s) where
           rw (a, b, c) (from-sound sound (rw b at order))
 
   -- The output, whatever stood in it before.
-  pub output-holds : (count : ℕ) (bytes marks output : List ℕ) → prepareOf q ≡ Prepared count bytes marks → length output ≡ q .output → Holds (s .allocation) bytes output (outputAfter (prepareOf q) output)
-  output-holds count bytes marks output e long = rw e (record { size = size; segment = front; behind = back })
+  pub output-holds : {count : ℕ} {bytes marks : List ℕ} (output : List ℕ) → prepareOf q ≡ Prepared count bytes marks → length output ≡ q .output → Holds (s .allocation) bytes output (outputAfter (prepareOf q) output)
+  output-holds {count} {bytes} {marks} output e long = rw e (record { size = size; segment = front; behind = back })
     where
       size-is : length bytes ≡ s .allocation
-      size-is = delivered count bytes marks e .exact .size
+      size-is = delivered e .exact .size
 
       size : length (bytes ++ drop (length bytes) output) ≡ length output
       size = omega (arith, length-append bytes (drop (length bytes) output), length-drop (length bytes) output, size-is, ready .output)
@@ -82,7 +78,7 @@ module _ (q : Request) (h : Header) (s : Segment) (ready : Ready q h s) where
           rw on at tail
 
 -- Whatever is accepted was ready, and is delivered as demands 2 and 3 say.
-pub demands : (q : Request) (count : ℕ) (bytes marks : List ℕ) → prepareOf q ≡ Prepared count bytes marks → (h : Header) × (s : Segment) × Ready q h s × Delivered q h s count bytes marks
-demands q count bytes marks e =
+pub demands : (q : Request) {count : ℕ} {bytes marks : List ℕ} → prepareOf q ≡ Prepared count bytes marks → (h : Header) × (s : Segment) × Ready q h s × Delivered q h s count bytes marks
+demands q {count} {bytes} {marks} e =
     let w = was-ready q count bytes marks e in
-    (w .0, w .1, w .2, delivered q (w .0) (w .1) (w .2) count bytes marks e)
+    (w .0, w .1, w .2, delivered q (w .0) (w .1) (w .2) e)

@@ -12,20 +12,18 @@ use Rattle.refusal.specs.declared.Refusal.{Refusal}
 use Rattle.refusal.specs.declared.Refusal.the-variants.{SitesOver}
 use Rattle.header.specs.declared.Header.{Header}
 use Rattle.segment.specs.declared.Segment.{Segment}
-use Rattle.fixup.specs.Record.{recordAt}
-use Rattle.fixup.specs.Action.{actionOf}
 use Rattle.fixup.proofs.Resolves.{refused-as}
 use Rattle.site.specs.Walk.{Walk, Walked, Stopped}
 use Rattle.site.specs.declared.Action.the-variants.{Refuse}
 use Rattle.site.proofs.Over.{never-over}
-use Rattle.prepare.specs.Prepare.{Request, Refused, storedOf, listOf, answerOf, actionsOf, walkedOf, outcomeOf, prepareOf}
+use Rattle.prepare.specs.Prepare.{Request, Refused, storedOf, recordIn, actionIn, answerOf, actionsOf, walkedOf, outcomeOf, prepareOf}
 use Rattle.prepare.specs.Sound.{Ready}
 use Rattle.prepare.proofs.Ready.{is-walked}
 use Rattle.prepare.proofs.Accept.{stored-small}
 
 -- A record is refused as 22 or 23.
-not-over : (q : Request) (h : Header) (s : Segment) (i : ℕ) → actionOf (q .image) h (q .selectors) (answerOf q i) (recordAt (listOf q s) i) ≡ Refuse SitesOver → ⊥
-not-over q h s i e = go (refused-as (q .image) h (q .selectors) (answerOf q i) (recordAt (listOf q s) i) SitesOver e)
+not-over : (q : Request) (h : Header) (s : Segment) (i : ℕ) → actionIn q h s i ≡ Refuse SitesOver → ⊥
+not-over q h s i e = go (refused-as (q .image) h (q .selectors) (answerOf q i) (recordIn q s i) SitesOver e)
   where
     go : (_≡_ {A = ℕ} 26 22) ⊎ (_≡_ {A = ℕ} 26 23) → ⊥
     go (inl z) = omega arith
@@ -35,7 +33,7 @@ pub never-26 : (q : Request) (h : Header) (s : Segment) → Bytes (q .image) →
 never-26 q h s bytes ready number e = go (walkedOf q h s) refl (sym (is-walked q h s ready) ∙ e)
   where
     others : All (λ a. a ≡ Refuse SitesOver → ⊥) (actionsOf q h s)
-    others = all-each (λ a. a ≡ Refuse SitesOver → ⊥) (s .records) (λ i. actionOf (q .image) h (q .selectors) (answerOf q i) (recordAt (listOf q s) i)) (λ i k z. not-over q h s i z)
+    others = all-each (λ a. a ≡ Refuse SitesOver → ⊥) (s .records) (actionIn q h s) (λ i k z. not-over q h s i z)
 
     go : (w : Walk) → walkedOf q h s ≡ w → outcomeOf q s w ≡ Refused SitesOver number → ⊥
     go (Walked sites) p z = never cc

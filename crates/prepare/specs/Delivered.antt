@@ -1,18 +1,17 @@
 -- Demands 2 and 3: what an accepted segment is.
 use mathlib.Core.Path.{_≡_}
-use mathlib.Core.List.{List, Perm}
+use mathlib.Core.List.{List}
 use Prim.Native.Nat.{ℕ, _+_, _≤_, _<_}
 use lib.ListN.{length}
 use Rattle.le.specs.Number.{byteAt}
 use Rattle.lists.specs.Lists.{All}
 use Rattle.header.specs.declared.Header.{Header}
 use Rattle.segment.specs.declared.Segment.{Segment}
-use Rattle.site.specs.Prepared.{unfixed}
 use Rattle.site.specs.Exact.{Exact, Marked, Stands}
 use Rattle.site.specs.Sound.{inChains, singles}
 use Rattle.prepare.specs.Prepare.{Request, storedOf}
 use Rattle.prepare.specs.Sound.{Sound}
-use Rattle.prepare.specs.Step.{Given, givenOf, stepsOf}
+use Rattle.prepare.specs.Step.{EveryOrder}
 
 pub record Delivered (q : Request) (h : Header) (s : Segment) (count : ℕ) (bytes marks : List ℕ) : Type 0 where
   pub sound : Sound q h s
@@ -27,9 +26,8 @@ pub record Delivered (q : Request) (h : Header) (s : Segment) (count : ℕ) (byt
   pub sum : count ≡ inChains (sound .chains) + singles (sound .chains)
   pub bound : count ≤ s .stored
   -- "Carrying out all records by document 01's step, one at a time on the buffer that the last one left, in every order of the
-  -- whole list, ends in exactly the prepared bytes." Each has its own answer; the start is the stored bytes, and zeros up to
-  -- the allocation.
-  pub order : (records : List Given) → Perm (givenOf q s) records → stepsOf q records (unfixed (storedOf q s) (s .allocation)) ≡ bytes
+  -- whole list, ends in exactly the prepared bytes."
+  pub order : EveryOrder q s bytes
 
 -- What a buffer holds in which a segment was prepared: the segment, and behind it what was there before. "output past the
 -- allocation is unchanged".

@@ -46,15 +46,22 @@ storedOf q s = take (s .stored) (drop (s .start) (q .image))
 abbrev pub listOf : Request → Segment → List ℕ
 listOf q s = drop (s .list) (q .image)
 
--- The records in file order, and what each asks for. "import answers (a 32-bit number for each record [...])".
-abbrev pub recordsOf : Request → Segment → List Record
-recordsOf q s = each (s .records) λ i. recordAt (listOf q s) i
+-- The record of an index, from 0 on, and what it asks for. "import answers (a 32-bit number for each record [...])".
+abbrev pub recordIn : Request → Segment → ℕ → Record
+recordIn q s i = recordAt (listOf q s) i
 
 abbrev pub answerOf : Request → ℕ → ℕ
 answerOf q i = getD (q .answers) i 0
 
+abbrev pub actionIn : Request → Header → Segment → ℕ → Action
+actionIn q h s i = actionOf (q .image) h (q .selectors) (answerOf q i) (recordIn q s i)
+
+-- All records in file order.
+abbrev pub recordsOf : Request → Segment → List Record
+recordsOf q s = each (s .records) (recordIn q s)
+
 abbrev pub actionsOf : Request → Header → Segment → List Action
-actionsOf q h s = each (s .records) λ i. actionOf (q .image) h (q .selectors) (answerOf q i) (recordAt (listOf q s) i)
+actionsOf q h s = each (s .records) (actionIn q h s)
 
 -- "21: selectors under the segment count, import answers under the record count, output under the allocation, or marks under
 -- the stored length".
@@ -83,6 +90,7 @@ walkedOf q h s = walkOf (storedOf q s) (actionsOf q h s)
 abbrev pub entriesOf : Request → Header → EntryTable
 entriesOf q h = tableOf (tableBytes (q .image) h) (h .segments .count)
 
+-- The refusals 1 to 7, 8, 12 to 14, 10, 11, 9 and 21 in this order, then those of the records, or the prepared segment.
 unfoldable pub prepareOf : Request → Outcome
 prepareOf q =
     onHeader (headerOf (q .image)) refuse λ h.

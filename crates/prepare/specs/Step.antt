@@ -1,7 +1,8 @@
 -- Document 01, "Step of demand 3. It is given a buffer of the allocation's length, one record with its own import answer, the
 -- selectors, and the image's header and tables, read for that record's target only".
+use mathlib.Core.Path.{_≡_}
 use Prim.Native.Nat.{ℕ}
-use mathlib.Core.List.{List, []}
+use mathlib.Core.List.{List, [], Perm}
 use Rattle.lists.specs.Lists.{inTurn, each}
 use Rattle.header.specs.Header.{headerOf, onHeader}
 use Rattle.segment.specs.declared.Segment.{Segment}
@@ -9,7 +10,8 @@ use Rattle.fixup.specs.Record.{recordAt, bytesAt}
 use Rattle.fixup.specs.Action.{actionOf}
 use Rattle.site.specs.Site.{Site}
 use Rattle.site.specs.Step as site
-use Rattle.prepare.specs.Prepare.{Request, listOf, answerOf}
+use Rattle.site.specs.Prepared.{unfixed}
+use Rattle.prepare.specs.Prepare.{Request, storedOf, listOf, answerOf}
 
 -- A record as a step is given it: its 8 bytes, and its own import answer.
 pub record Given : Type 0 where
@@ -29,9 +31,17 @@ visitedOf image selectors g buffer =
     site.visited (actionOf image h selectors (g .answer) (recordAt (g .bytes) 0)) buffer
 
 -- All records of a segment, each with its own answer, in file order.
+abbrev pub givenIn : Request → Segment → ℕ → Given
+givenIn q s i = record { bytes = bytesAt (listOf q s) i; answer = answerOf q i }
+
 abbrev pub givenOf : Request → Segment → List Given
-givenOf q s = each (s .records) λ i. record { bytes = bytesAt (listOf q s) i; answer = answerOf q i }
+givenOf q s = each (s .records) (givenIn q s)
 
 -- "Carrying out all records by document 01's step, one at a time on the buffer that the last one left".
 abbrev pub stepsOf : Request → List Given → List ℕ → List ℕ
 stepsOf q records buffer = inTurn (stepOf (q .image) (q .selectors)) records buffer
+
+-- "in every order of the whole list, ends in exactly the prepared bytes." Each record comes once and has its own answer; the
+-- start is the stored bytes, and zeros up to the allocation.
+abbrev pub EveryOrder : Request → Segment → List ℕ → Type 0
+EveryOrder q s bytes = (records : List Given) → Perm (givenOf q s) records → stepsOf q records (unfixed (storedOf q s) (s .allocation)) ≡ bytes

@@ -1,4 +1,4 @@
--- Demands 2 and 3 on the bytes of a segment whose sites are known.
+-- Demand 2 on the bytes of a segment whose sites are known.
 use mathlib.Core.Path.{_≡_}
 use mathlib.Core.Bool.{Bool, true, false}
 use mathlib.Core.List.{List}
