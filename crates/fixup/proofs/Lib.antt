@@ -1,3 +1,4 @@
 pub mod Fields
+pub mod Targets
 pub mod Resolves
 pub mod Agree

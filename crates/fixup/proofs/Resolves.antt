@@ -1,14 +1,13 @@
 -- A record's type and target decide alone whether it is refused, where there are as many selectors as segments.
---     target-cases    what holds of every kind of target holds of a record's; a segment is one that the module has
 --     resolved        a record of a known type whose target resolves is not refused
 --     known           a record that is not refused is of a known type, and its target resolves
 --     refused-as      a record that is refused is so by its type or its target: 22 or 23
 -- Assumes nothing.
 use mathlib.Core.Path.{_≡_, refl}
 use mathlib.Core.Logic.{_⊎_, inl, inr}
-use mathlib.Core.Bool.{Bool, true, false, cond}
+use mathlib.Core.Bool.{Bool, true, false}
 use mathlib.Core.List.{List, [], _∷_}
-use Prim.Native.Nat.{ℕ, _≤_, _%_}
+use Prim.Native.Nat.{ℕ, _≤_}
 use native.Mathlib.Omega.{arith}
 use borrow.Author.Tests.{le-ltb, eqb-true}
 use lib.Dec.{ltb, eqb}
@@ -16,16 +15,12 @@ use lib.ListN.{length}
 use Rattle.checks.proofs.Impossible.{never}
 use Rattle.checks.specs.Checks.{_⇒_, decide}
 use Rattle.refusal.specs.declared.Refusal.{Refusal}
-use Rattle.refusal.specs.declared.Refusal.the-variants.{FixupType, TargetSegment, TargetModule, TargetOrdinal, TargetString}
+use Rattle.refusal.specs.declared.Refusal.the-variants.{FixupType, TargetSegment}
 use Rattle.header.specs.Header.{lacks}
 use Rattle.header.specs.declared.Header.{Header}
 use Rattle.header.proofs.Numbered.{has}
 use Rattle.bundle.specs.declared.Answer as entry
 use Rattle.bundle.specs.declared.Answer.the-variants as entries
-use Rattle.entry.specs.Ordinal.{ordinalIn}
-use Rattle.entry.proofs.Segments.{ordinal-segment}
-use Rattle.imports.specs.Module.{stringAt}
-use Rattle.imports.specs.declared.Imported.{Imported}
 use Rattle.imports.specs.declared.Imported.the-variants as imported
 use Rattle.site.specs.declared.Action.the-variants.{Refuse}
 use Rattle.site.specs.declared.Kind.{Kind}
@@ -35,51 +30,13 @@ use Rattle.fixup.specs.declared.Record.{Record}
 use Rattle.fixup.specs.declared.Typed.{Typed}
 use Rattle.fixup.specs.declared.Typed.the-variants.{Known, Unknown}
 use Rattle.fixup.specs.declared.Target.{Target}
-use Rattle.fixup.specs.declared.Target.the-variants.{Segment, Import, Os, Unresolved}
+use Rattle.fixup.specs.declared.Target.the-variants.{Segment, Unresolved}
 use Rattle.fixup.specs.Record.{typedOf}
-use Rattle.fixup.specs.Target.{entryTarget, internalTarget, importTarget, nameTarget, targetOf}
+use Rattle.fixup.specs.Target.{targetOf}
 use Rattle.refusal.specs.Number.{numberOf}
-use Rattle.fixup.specs.Action.{applyTo, selectorOf, toTarget, ofType, actionOf, KnownType, Resolves}
-
--- A reason for which a target doesn't resolve: 23.
-abbrev pub TargetReason : Refusal → Type 0
-TargetReason why = numberOf why ≡ 23
-
--- What holds of every kind of target holds of a record's.
-module _ (image : List ℕ) (h : Header) (r : Record) (P : Target → Type 0) (segment-in : (segment offset : ℕ) → lacks (h .segments .count) segment ≡ false → P (Segment segment offset)) (import : P Import) (os : P Os) (lacked : (why : Refusal) → TargetReason why → P (Unresolved why)) where
-  entry-case : (a : entry.Answer) → ordinalIn image h (r .last) ≡ a → P (entryTarget a)
-  entry-case (entries.Accepted e) q = segment-in (e .segment) (e .offset) (ordinal-segment image h (r .last) e q)
-  entry-case (entries.Refused why) q = lacked TargetOrdinal refl
-
-  internal-case : P (internalTarget image h r)
-  unfolding internalTarget
-  internal-case = go (eqb (r .first % 256) 255) (lacks (h .segments .count) (r .first % 256)) refl
-    where
-      go : (ordinal lacking : Bool) → lacks (h .segments .count) (r .first % 256) ≡ lacking → P (cond ordinal (entryTarget (ordinalIn image h (r .last))) (decide Unresolved ((lacking ⇒ TargetSegment) ∷ []) (Segment (r .first % 256) (r .last))))
-      go true lacking p = entry-case (ordinalIn image h (r .last)) refl
-      go false true p = lacked TargetSegment refl
-      go false false p = segment-in (r .first % 256) (r .last) p
-
-  import-case : (found : Target) → P found → P (importTarget h r found)
-  import-case found there = go (lacks (h .modules .count) (r .first))
-    where
-      go : (t : Bool) → P (decide Unresolved ((t ⇒ TargetModule) ∷ []) found)
-      go true = lacked TargetModule refl
-      go false = there
-
-  name-case : (s : Imported) → P (nameTarget s)
-  name-case (imported.Sound text) = import
-  name-case imported.Unsound = lacked TargetString refl
-
-  pub target-cases : P (targetOf image h r)
-  unfolding targetOf
-  target-cases = go (eqb (r .flags % 4) 0) (eqb (r .flags % 4) 1) (eqb (r .flags % 4) 2)
-    where
-      go : (zero one two : Bool) → P (cond zero (internalTarget image h r) (cond one (importTarget h r Import) (cond two (importTarget h r (nameTarget (stringAt image h (r .last)))) Os)))
-      go true one two = internal-case
-      go false true two = import-case Import import
-      go false false true = import-case (nameTarget (stringAt image h (r .last))) (name-case (stringAt image h (r .last)))
-      go false false false = os
+use Rattle.fixup.specs.Action.{applyTo, selectorOf, toTarget, ofType, actionOf, KnownType}
+use Rattle.fixup.specs.Resolves.{Resolves}
+use Rattle.fixup.proofs.Targets.{TargetReason, target-cases, resolves-not, resolves}
 
 -- A type is found exactly where it is one of the four.
 type-found : (r : Record) → KnownType r → typedOf (r .kind) ≡ Unknown → ⊥
@@ -118,11 +75,11 @@ module _ (image : List ℕ) (h : Header) (selectors : List ℕ) (answer : ℕ) (
 
       go : (typed : Typed) → typedOf (r .kind) ≡ typed → ofType selectors answer r typed (targetOf image h r) ≡ Refuse why → ⊥
       go Unknown p z = type-found r known p
-      go (Known kind) p z = target-cases image h r (Good kind) (in-segment kind) (λ k z. never cc) (λ k z. never cc) (λ other reason k z. k other refl) target z
+      go (Known kind) p z = target-cases image h r (Good kind) (in-segment kind) (λ k z. never cc) (λ k z. never cc) (λ other reason k z. k other refl) (λ other k. resolves-not image h r other (target .0) (target .1) k) z
 
   pub known : Resolved (actionOf image h selectors answer r) → KnownType r × Resolves image h r
   unfolding actionOf
-  known ok = (found-type r go-typed, λ why e. go (typedOf (r .kind)) why refl e)
+  known ok = (found-type r go-typed, resolves image h r (λ why e. go (typedOf (r .kind)) why refl e))
     where
       go-typed : typedOf (r .kind) ≡ Unknown → ⊥
       go-typed e = ok FixupType (rw e)

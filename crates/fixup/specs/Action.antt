@@ -6,7 +6,6 @@ use Prim.Native.Nat.{ℕ, _-_, _/_, _%_}
 use mathlib.Core.List.{List, [], _∷_}
 use lib.Dec.{ltb, eqb}
 use lib.ListN.{length, getD}
-use Rattle.refusal.specs.declared.Refusal.{Refusal}
 use Rattle.refusal.specs.declared.Refusal.the-variants.{FixupType, TargetSegment}
 use Rattle.checks.specs.Checks.{_⇒_, decide}
 use Rattle.header.specs.declared.Header.{Header}
@@ -48,12 +47,9 @@ ofType selectors answer r Unknown target = Refuse FixupType
 unfoldable pub actionOf : List ℕ → Header → List ℕ → ℕ → Record → Action
 actionOf image h selectors answer r = ofType selectors answer r (typedOf (r .kind)) (targetOf image h r)
 
--- When a record is good: its type is known, and its target resolves.
+-- That a record's type is known.
 abbrev pub KnownType : Record → Type 0
 KnownType r = (r .kind ≡ 0) ⊎ (r .kind ≡ 2) ⊎ (r .kind ≡ 3) ⊎ (r .kind ≡ 5)
-
-abbrev pub Resolves : List ℕ → Header → Record → Type 0
-Resolves image h r = (why : Refusal) → targetOf image h r ≡ Unresolved why → ⊥
 
 -- That two lists of selectors and two import answers agree where a target looks at them: "Answers depend on the selectors of
 -- segments that are targeted and on the answers at import records."

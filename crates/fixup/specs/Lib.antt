@@ -1,3 +1,4 @@
 pub mod Record
 pub mod Target
+pub mod Resolves
 pub mod Action

@@ -1,10 +1,12 @@
--- The law of a table that doesn't lack a number: the number lies between 1 and the count.
+-- The laws of a table that doesn't lack a number.
+--     has        the number lies between 1 and the count
+--     has-such   and the other way
 -- Assumes nothing.
 use mathlib.Core.Path.{_≡_, refl}
 use mathlib.Core.Bool.{Bool, true, false}
 use Prim.Native.Nat.{ℕ, _≤_, _<_}
 use native.Mathlib.Omega.{arith}
-use borrow.Author.Tests.{ltb-false, eqb-false}
+use borrow.Author.Tests.{ltb-false, eqb-false, ne-eqb, le-ltb}
 use lib.Dec.{eqb}
 use Rattle.checks.proofs.Impossible.{never}
 use Rattle.header.specs.Header.{lacks}
@@ -20,3 +22,9 @@ has count number e = go (eqb number 0) refl
     go false q =
         let some : number ≡ 0 → ⊥ = eqb-false number 0 q in
         (omega arith, ltb-false count number (rw q at e))
+
+pub has-such : (count number : ℕ) → 0 < number → number ≤ count → lacks count number ≡ false
+unfolding lacks
+has-such count number low high =
+    let some : number ≡ 0 → ⊥ = λ e. omega arith in
+    rw (ne-eqb number 0 some, le-ltb count number high)

@@ -16,7 +16,8 @@ use Rattle.lists.proofs.Each.{all-each, each-all}
 use Rattle.header.specs.declared.Header.{Header}
 use Rattle.segment.specs.declared.Segment.{Segment}
 use Rattle.segment.proofs.Bounds.{record-accepted, allocation-full}
-use Rattle.fixup.specs.Action.{KnownType, Resolves}
+use Rattle.fixup.specs.Action.{KnownType}
+use Rattle.fixup.specs.Resolves.{Resolves}
 use Rattle.fixup.proofs.Resolves as fixup
 use Rattle.site.specs.Site.{Site}
 use Rattle.site.specs.Sound as site

@@ -13,7 +13,8 @@ use Rattle.segment.specs.declared.Segment.{Segment}
 use Rattle.segment.specs.declared.Answer.the-variants as segments
 use Rattle.tables.specs.Table as tables
 use Rattle.bundle.specs.declared.Bundle.{Bundle}
-use Rattle.fixup.specs.Action.{KnownType, Resolves}
+use Rattle.fixup.specs.Action.{KnownType}
+use Rattle.fixup.specs.Resolves.{Resolves}
 use Rattle.site.specs.Site.{Site, Inside, Apart}
 use Rattle.site.specs.Sound.{Sites}
 use Rattle.prepare.specs.Prepare.{Request, Prepared, prepareOf, entriesOf, storedOf, recordsOf, actionsOf}
