@@ -28,6 +28,9 @@ use Rattle.prepare.proofs.Ready.{is-walked, was-ready}
 use Rattle.prepare.proofs.Accept.{stored-length, stored-fits, made}
 use Rattle.prepare.proofs.Order.{every-order}
 
+same-parts : {n n′ : ℕ} {b b′ m m′ : List ℕ} → Prepared n b m ≡ Prepared n′ b′ m′ → (n ≡ n′) × (b ≡ b′) × (m ≡ m′)
+same-parts e = (cc, cc, cc)
+
 module _ (q : Request) (h : Header) (s : Segment) (ready : Ready q h s) where
   from-sound : (sound : Sound q h s) → EveryOrder q s (prepared (storedOf q s) (s .allocation) (sound .sites)) → Delivered q h s (length (sound .sites)) (prepared (storedOf q s) (s .allocation) (sound .sites)) (marked (q .marks) (sound .sites))
   from-sound sound order =
@@ -53,10 +56,8 @@ module _ (q : Request) (h : Header) (s : Segment) (ready : Ready q h s) where
     where
       go : (sound : Sound q h s) → Prepared count bytes marks ≡ outcomeOf q s (Walked (sound .sites)) → EveryOrder q s bytes → Delivered q h s count bytes marks
       go sound is order =
-          let a : count ≡ length (sound .sites) = cc in
-          let b : bytes ≡ prepared (storedOf q s) (s .allocation) (sound .sites) = cc in
-          let c : marks ≡ marked (q .marks) (sound .sites) = cc in
-          rw (a, b, c) (from-sound sound (rw b at order))
+          let part = same-parts is in
+          rw (part .0, part .1, part .2) (from-sound sound (rw (part .1) at order))
 
   -- The output, whatever stood in it before.
   pub output-holds : {count : ℕ} {bytes marks : List ℕ} (output : List ℕ) → prepareOf q ≡ Prepared count bytes marks → length output ≡ q .output → Holds (s .allocation) bytes output (outputAfter (prepareOf q) output)
