@@ -4,7 +4,6 @@
 --     all-both       two things together
 --     all-append     of two lists together, and all-front and all-back the other way
 --     all-mapped     of the images of the elements
---     all-at         of the element at an index
 --     all-gathered   of the lists of all elements
 --     all-swap       of all of one list, for each of another
 --     pairs-map      of each two, what follows from what holds of them
@@ -12,9 +11,6 @@
 --     pairs-append   of each two of two lists together, and pairs-front, pairs-back and pairs-across the other way
 -- Assumes nothing.
 use mathlib.Core.List.{List, [], _∷_, _++_, map}
-use Prim.Native.Nat.{ℕ, zero, suc, _<_}
-use native.Mathlib.Omega.{arith}
-use lib.ListN.{length, getD}
 use Rattle.lists.specs.Lists.{All, Pairs, gathered}
 
 pub all-of : {A : Type 0} (P : A → Type 0) → ((x : A) → P x) → (xs : List A) → All P xs
@@ -44,11 +40,6 @@ all-back P (x ∷ xs) ys p = all-back P xs ys (p .1)
 pub all-mapped : {A B : Type 0} (f : A → B) (P : B → Type 0) (xs : List A) → All (λ x. P (f x)) xs → All P (map f xs)
 all-mapped f P [] p = tt
 all-mapped f P (x ∷ xs) p = (p .0, all-mapped f P xs (p .1))
-
-pub all-at : {A : Type 0} (P : A → Type 0) (d : A) (xs : List A) (i : ℕ) → All P xs → i < length xs → P (getD xs i d)
-all-at P d [] i p h = absurd (omega arith)
-all-at P d (x ∷ xs) zero p h = p .0
-all-at P d (x ∷ xs) (suc i) p h = all-at P d xs i (p .1) (omega arith)
 
 pub all-gathered : {A B : Type 0} (f : A → List B) (P : B → Type 0) (xs : List A) → All P (gathered f xs) → All (λ x. All P (f x)) xs
 all-gathered f P [] p = tt
