@@ -19,9 +19,6 @@ use Rattle.refusal.specs.declared.Refusal.the-variants.{FixupType, TargetSegmen
 use Rattle.header.specs.Header.{lacks}
 use Rattle.header.specs.declared.Header.{Header}
 use Rattle.header.proofs.Numbered.{has}
-use Rattle.bundle.specs.declared.Answer as entry
-use Rattle.bundle.specs.declared.Answer.the-variants as entries
-use Rattle.imports.specs.declared.Imported.the-variants as imported
 use Rattle.site.specs.declared.Action.the-variants.{Refuse}
 use Rattle.site.specs.declared.Kind.{Kind}
 use Rattle.site.specs.declared.Kind.the-variants.{LowByte, Selector, Far, Offset}
