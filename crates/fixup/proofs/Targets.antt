@@ -1,6 +1,6 @@
 -- The laws of a record's target.
 --     target-cases    what holds of every kind of target holds of a record's; a segment is one that the module has
---     resolved-is     a target resolves to what the definition by cases says
+--     resolved-is     a target resolves to what the definition by cases says, and resolves-not: which is no reason why not
 --     resolves        and resolves where that is not a reason why not
 -- Assumes nothing.
 use mathlib.Core.Path.{_≡_, refl, sym, _∙_}
@@ -81,13 +81,16 @@ module _ (image : List ℕ) (h : Header) (r : Record) where
   resolved-is (import-by-name how in-count text found) = rw (how, has-such _ _ (in-count .0) (in-count .1), found)
   resolved-is (as-os how) = rw how
 
-  -- No target resolves and doesn't.
+  -- What a target resolves to is no reason why it doesn't.
+  no-reason : (why : Refusal) {t : Target} → ResolvesTo image h r t → t ≡ Unresolved why → ⊥
+  no-reason why (by-segment how other in-count) e = never cc
+  no-reason why (by-ordinal how is x found) e = never cc
+  no-reason why (import-by-ordinal how in-count) e = never cc
+  no-reason why (import-by-name how in-count text found) e = never cc
+  no-reason why (as-os how) e = never cc
+
   pub resolves-not : (why : Refusal) (t : Target) → ResolvesTo image h r t → targetOf image h r ≡ Unresolved why → ⊥
-  resolves-not why t (by-segment how other in-count) e = let z = sym (resolved-is (by-segment how other in-count)) ∙ e in never cc
-  resolves-not why t (by-ordinal how is x found) e = let z = sym (resolved-is (by-ordinal how is x found)) ∙ e in never cc
-  resolves-not why t (import-by-ordinal how in-count) e = let z = sym (resolved-is (import-by-ordinal how in-count)) ∙ e in never cc
-  resolves-not why t (import-by-name how in-count text found) e = let z = sym (resolved-is (import-by-name how in-count text found)) ∙ e in never cc
-  resolves-not why t (as-os how) e = let z = sym (resolved-is (as-os how)) ∙ e in never cc
+  resolves-not why t to e = no-reason why to (sym (resolved-is to) ∙ e)
 
   -- The other way, by the kinds of target.
   abbrev Not : Target → Type 0
