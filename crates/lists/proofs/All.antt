@@ -49,11 +49,11 @@ pub all-swap : {A B : Type 0} (R : A → B → Type 0) (xs : List A) (ys : List 
 all-swap R [] ys p = all-of (λ y. Unit) (λ y. tt) ys
 all-swap R (x ∷ xs) ys p = all-both (R x) (λ y. All (λ x. R x y) xs) ys (p .0) (all-swap R xs ys (p .1))
 
-pub pairs-map : {A : Type 0} (R S : A → A → Type 0) → ((x y : A) → R x y → S x y) → (xs : List A) → Pairs R xs → Pairs S xs
-pairs-map R S h [] p = tt
-pairs-map R S h (x ∷ xs) p = (all-map (R x) (S x) (h x) xs (p .0), pairs-map R S h xs (p .1))
-
 module _ {A : Type 0} (R : A → A → Type 0) where
+  pub pairs-back : (xs ys : List A) → Pairs R (xs ++ ys) → Pairs R ys
+  pairs-back [] ys p = p
+  pairs-back (x ∷ xs) ys p = pairs-back xs ys (p .1)
+
   pub pairs-append : (xs ys : List A) → Pairs R xs → Pairs R ys → All (λ x. All (R x) ys) xs → Pairs R (xs ++ ys)
   pairs-append [] ys p q c = q
   pairs-append (x ∷ xs) ys p q c = (all-append (R x) xs ys (p .0) (c .0), pairs-append xs ys (p .1) q (c .1))
@@ -62,13 +62,13 @@ module _ {A : Type 0} (R : A → A → Type 0) where
   pairs-front [] ys p = tt
   pairs-front (x ∷ xs) ys p = (all-front (R x) xs ys (p .0), pairs-front xs ys (p .1))
 
-  pub pairs-back : (xs ys : List A) → Pairs R (xs ++ ys) → Pairs R ys
-  pairs-back [] ys p = p
-  pairs-back (x ∷ xs) ys p = pairs-back xs ys (p .1)
-
   pub pairs-across : (xs ys : List A) → Pairs R (xs ++ ys) → All (λ x. All (R x) ys) xs
   pairs-across [] ys p = tt
   pairs-across (x ∷ xs) ys p = (all-back (R x) xs ys (p .0), pairs-across xs ys (p .1))
+
+pub pairs-map : {A : Type 0} (R S : A → A → Type 0) → ((x y : A) → R x y → S x y) → (xs : List A) → Pairs R xs → Pairs S xs
+pairs-map R S h [] p = tt
+pairs-map R S h (x ∷ xs) p = (all-map (R x) (S x) (h x) xs (p .0), pairs-map R S h xs (p .1))
 
 -- That something holds of each element of one list with each of another.
 abbrev pub Across : {A : Type 0} → (A → A → Type 0) → List A → List A → Type 0

@@ -39,20 +39,7 @@ module _ (q : Request) (h : Header) (s : Segment) (ready : Ready q h s) where
   pub stored-small : Bytes (q .image) → length (storedOf q s) ≤ 65536
   stored-small bytes = omega (arith, stored-fits, allocation-full (q .image) h (q .number - 1) s (ready .segment) bytes)
 
-  -- The records' own words for what the sites' theory calls resolved.
-  unfoldable pub to-sites : Sound q h s → site.Sound (storedOf q s) (actionsOf q h s)
-  to-sites sound =
-      record {
-        resolved = all-each site.Resolved (s .records) (actionIn q h s) good;
-        sites = sound .sites;
-        theirs = sound .chains;
-        inside = sound .inside;
-        apart = sound .apart;
-      }
-    where
-      good : (i : ℕ) → i < s .records → site.Resolved (actionIn q h s i)
-      good i k = fixup.resolved (q .image) h (q .selectors) (answerOf q i) (recordIn q s i) (ready .selectors) (each-all KnownType (s .records) (recordIn q s) (sound .types) i k) (each-all (Resolves (q .image) h) (s .records) (recordIn q s) (sound .targets) i k)
-
+  -- What the sites' theory calls resolved, in the records' own words, and the other way.
   pub from-sites : site.Sound (storedOf q s) (actionsOf q h s) → Sound q h s
   from-sites sound =
       record {
@@ -66,6 +53,19 @@ module _ (q : Request) (h : Header) (s : Segment) (ready : Ready q h s) where
     where
       known : (i : ℕ) → i < s .records → KnownType (recordIn q s i) × Resolves (q .image) h (recordIn q s i)
       known i k = fixup.known (q .image) h (q .selectors) (answerOf q i) (recordIn q s i) (each-all site.Resolved (s .records) (actionIn q h s) (sound .resolved) i k)
+
+  unfoldable pub to-sites : Sound q h s → site.Sound (storedOf q s) (actionsOf q h s)
+  to-sites sound =
+      record {
+        resolved = all-each site.Resolved (s .records) (actionIn q h s) good;
+        sites = sound .sites;
+        theirs = sound .chains;
+        inside = sound .inside;
+        apart = sound .apart;
+      }
+    where
+      good : (i : ℕ) → i < s .records → site.Resolved (actionIn q h s i)
+      good i k = fixup.resolved (q .image) h (q .selectors) (answerOf q i) (recordIn q s i) (ready .selectors) (each-all KnownType (s .records) (recordIn q s) (sound .types) i k) (each-all (Resolves (q .image) h) (s .records) (recordIn q s) (sound .targets) i k)
 
   -- What an accepted segment is made from.
   pub made : (sites : ℕ) (bytes marks : List ℕ) → walked q h s ≡ Prepared sites bytes marks → (sound : Sound q h s) × (Prepared sites bytes marks ≡ outcomeOf q s (Walked (sound .sites)))

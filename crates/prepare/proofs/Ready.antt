@@ -30,14 +30,6 @@ use Rattle.prepare.specs.Sound.{Ready}
 abbrev pub walked : Request → Header → Segment → Outcome
 walked q h s = outcomeOf q s (walkedOf q h s)
 
-sizes : (q : Request) (h : Header) (s : Segment) → Ready q h s → Passed (sizeChecks q h s)
-unfolding sizeChecks
-sizes q h s r = (le-ltb _ _ (r .selectors), (le-ltb _ _ (r .answers), (le-ltb _ _ (r .output), (le-ltb _ _ (r .marks), tt))))
-
-pub is-walked : (q : Request) (h : Header) (s : Segment) → Ready q h s → prepareOf q ≡ walked q h s
-unfolding prepareOf onHeader
-is-walked q h s r = rw (r .header, r .number, r .entries, r .segment) (decided refuse (sizeChecks q h s) (walked q h s) (sizes q h s r))
-
 -- A refusal from before the records names no record, and one that does came later. Whatever is neither is an answer.
 abbrev IsWalked : Request → Outcome → Type 0
 IsWalked q o = (h : Header) × (s : Segment) × Ready q h s × (walked q h s ≡ o)
@@ -76,3 +68,12 @@ module _ (q : Request) (sites : ℕ) (bytes marks : List ℕ) where
       go : (a : header.Answer) → headerOf (q .image) ≡ a → IsWalked q answer
       go (headers.Accepted h) p = headed h p (lacks (h .segments .count) (q .number)) refl (rw p at e)
       go (headers.Refused why) p = let z : refuse why ≡ answer = rw p at e in never cc
+
+-- The other way.
+sizes : (q : Request) (h : Header) (s : Segment) → Ready q h s → Passed (sizeChecks q h s)
+unfolding sizeChecks
+sizes q h s r = (le-ltb _ _ (r .selectors), (le-ltb _ _ (r .answers), (le-ltb _ _ (r .output), (le-ltb _ _ (r .marks), tt))))
+
+pub is-walked : (q : Request) (h : Header) (s : Segment) → Ready q h s → prepareOf q ≡ walked q h s
+unfolding prepareOf onHeader
+is-walked q h s r = rw (r .header, r .number, r .entries, r .segment) (decided refuse (sizeChecks q h s) (walked q h s) (sizes q h s r))

@@ -10,12 +10,13 @@ use lib.Dec.{eqb}
 use lib.ListN.{length, length-append, length-map}
 use lib.Seq.{append-snoc}
 use Rattle.le.specs.Number.{wordAt}
+use Rattle.checks.proofs.Checks.{decided}
 use Rattle.checks.proofs.Impossible.{never}
 use Rattle.refusal.specs.declared.Refusal.the-variants.{SitesOver}
 use Rattle.lists.specs.Lists.{All}
 use Rattle.lists.proofs.All.{all-front, pairs-front}
 use Rattle.site.specs.Site.{Site, siteOf, Inside, Apart}
-use Rattle.site.specs.Walk.{Followed, Ended, Halted, Walked, Stopped, isLast, followFrom, followed, walkFrom, walkOf, onFollowed}
+use Rattle.site.specs.Walk.{Followed, Ended, Halted, Walked, Stopped, siteChecks, isLast, followFrom, followed, walkFrom, walkOf, onFollowed}
 use Rattle.site.specs.Sound.{Chain, last, next, Sites, none, os, refused, single, chain, Resolved, Sound}
 use Rattle.site.specs.declared.Fixup.{Fixup}
 use Rattle.site.specs.declared.Action.{Action}
@@ -74,8 +75,7 @@ module _ (stored : List ℕ) (f : Fixup) where
   follow-last : (left at : ℕ) (earlier : List Site) → Good stored (earlier ++ siteOf f at ∷ []) → isLast f (wordAt stored at) ≡ true → followFrom (suc left) stored f at earlier ≡ Ended (earlier ++ siteOf f at ∷ [])
   unfolding followFrom
   follow-last left at earlier g done =
-      let pass = checks-pass stored earlier (siteOf f at) [] g in
-      rw (pass .0, pass .1, done)
+      decided Halted (siteChecks stored earlier (siteOf f at)) _ (checks-pass stored earlier (siteOf f at) [] g) ∙ rw done
 
   follow-chain : (left : ℕ) {at : ℕ} {places : List ℕ} → Chain stored at places → (earlier : List Site) → f .additive ≡ false → length places ≤ left → Good stored (earlier ++ map (siteOf f) places) → followFrom left stored f at earlier ≡ Ended (earlier ++ map (siteOf f) places)
   unfolding followFrom
@@ -83,11 +83,11 @@ module _ (stored : List ℕ) (f : Fixup) where
   follow-chain zero (next at e c) earlier p h g = absurd (omega arith)
   follow-chain (suc left) (last at e) earlier p h g = follow-last left at earlier g (rw (p, eq-eqb _ _ e))
   follow-chain (suc left) (next at {places} e c) earlier p h g =
-      let pass = checks-pass stored earlier (siteOf f at) (map (siteOf f) places) g in
+      let pass = decided Halted (siteChecks stored earlier (siteOf f at)) _ (checks-pass stored earlier (siteOf f at) (map (siteOf f) places) g) in
       let on : isLast f (wordAt stored at) ≡ false = rw (p, ne-eqb _ _ e) in
       let snoc = append-snoc earlier (siteOf f at) (map (siteOf f) places) in
       let rest = follow-chain left c (earlier ++ siteOf f at ∷ []) p (omega arith) (rw snoc g) in
-      rw (pass .0, pass .1, on) (rest ∙ ap Ended snoc)
+      pass ∙ rw on (rest ∙ ap Ended snoc)
 
   follow-own : (left : ℕ) {at : ℕ} {places : List ℕ} → Own stored f at places → (earlier : List Site) → length places ≤ left → Good stored (earlier ++ map (siteOf f) places) → followFrom left stored f at earlier ≡ Ended (earlier ++ map (siteOf f) places)
   follow-own zero (one t) earlier h g = absurd (omega arith)
