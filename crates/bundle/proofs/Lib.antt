@@ -1,3 +1,4 @@
 pub mod Went
 pub mod Entries
 pub mod Widths
+pub mod Reasons

@@ -2,16 +2,22 @@
 --     passed     an answer that is no refusal says that every check passed
 --     answered   and is then the one after the last check
 --     decided    where every check passed, that is the answer
+--     tried      what holds of each refusal, and of the answer where every check passed, holds of what the list decides
 -- Assumes nothing.
 use mathlib.Core.Path.{_≡_, refl, sym, _∙_}
 use mathlib.Core.Bool.{Bool, true, false}
 use mathlib.Core.List.{List, [], _∷_}
 use Rattle.checks.proofs.Impossible.{never}
-use Rattle.checks.specs.Checks.{Check, _⇒_, decide, Passed}
+use Rattle.checks.specs.Checks.{Check, _⇒_, decide, Passed, Reasons}
 
 pub decided : {W A : Type 0} (refuse : W → A) (checks : List (Check W)) (a : A) → Passed checks → decide refuse checks a ≡ a
 decided refuse [] a p = refl
 decided refuse ((fails ⇒ why) ∷ rest) a p = rw (p .0) (decided refuse rest a (p .1))
+
+pub tried : {W A : Type 0} (refuse : W → A) (P : A → Type 0) (checks : List (Check W)) (a : A) → Reasons (λ why. P (refuse why)) checks → (Passed checks → P a) → P (decide refuse checks a)
+tried refuse P [] a r p = p tt
+tried refuse P ((true ⇒ why) ∷ rest) a r p = r .0
+tried refuse P ((false ⇒ why) ∷ rest) a r p = tried refuse P rest a (r .1) (λ k. p (refl, k))
 
 -- `is-refusal` tells refusals from answers.
 module _ {W A : Type 0} (refuse : W → A) (is-refusal : A → Bool) (refused : (why : W) → is-refusal (refuse why) ≡ true) where

@@ -17,3 +17,8 @@ decide refuse ((fails ⇒ why) ∷ rest) a = cond fails (refuse why) (decide ref
 abbrev pub Passed : {W : Type 0} → List (Check W) → Type 0
 Passed [] = Unit
 Passed ((fails ⇒ why) ∷ rest) = (fails ≡ false) × Passed rest
+
+-- That something holds of every reason for which a list of checks refuses.
+abbrev pub Reasons : {W : Type 0} → (W → Type 0) → List (Check W) → Type 0
+Reasons P [] = Unit
+Reasons P ((fails ⇒ why) ∷ rest) = P why × Reasons P rest

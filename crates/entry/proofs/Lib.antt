@@ -5,3 +5,4 @@ pub mod Induction
 pub mod Follow
 pub mod Resolves
 pub mod Segments
+pub mod Reasons

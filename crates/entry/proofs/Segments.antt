@@ -17,7 +17,7 @@ use Rattle.tables.specs.Table.{Place, Next, Sound, Unsound}
 use Rattle.tables.proofs.Induction as tables
 use Rattle.bundle.specs.declared.Bundle.{Bundle}
 use Rattle.bundle.specs.declared.Entry.{Entry}
-use Rattle.bundle.specs.declared.Answer.the-variants.{Accepted, Refused}
+use Rattle.bundle.specs.declared.Answer.the-variants.{Accepted}
 use Rattle.bundle.specs.declared.Step as step
 use Rattle.bundle.specs.declared.Step.the-variants as steps
 use Rattle.bundle.specs.declared.Kind.the-variants.{Null}

@@ -4,7 +4,7 @@
 --     refused-as      a record that is refused is so by its type or its target: 22 or 23
 -- Assumes nothing.
 use mathlib.Core.Path.{_≡_, refl}
-use mathlib.Core.Logic.{_⊎_, inl, inr}
+use mathlib.Core.Logic.{inl, inr}
 use mathlib.Core.Bool.{Bool, true, false}
 use mathlib.Core.List.{List, [], _∷_}
 use Prim.Native.Nat.{ℕ, _≤_}
@@ -30,7 +30,7 @@ use Rattle.fixup.specs.declared.Target.{Target}
 use Rattle.fixup.specs.declared.Target.the-variants.{Segment, Unresolved}
 use Rattle.fixup.specs.Record.{typedOf}
 use Rattle.fixup.specs.Target.{targetOf}
-use Rattle.refusal.specs.Number.{numberOf}
+use Rattle.refusal.specs.Number.{Between}
 use Rattle.fixup.specs.Action.{applyTo, selectorOf, toTarget, ofType, actionOf, KnownType}
 use Rattle.fixup.specs.Resolves.{Resolves}
 use Rattle.fixup.proofs.Targets.{TargetReason, target-cases, resolves-not, resolves}
@@ -86,27 +86,27 @@ module _ (image : List ℕ) (h : Header) (selectors : List ℕ) (answer : ℕ) (
       go (Known kind) why p q = ok why (rw (p, q))
 
   -- The reasons for which a record is refused.
-  pub refused-as : (why : Refusal) → actionOf image h selectors answer r ≡ Refuse why → (numberOf why ≡ 22) ⊎ (numberOf why ≡ 23)
+  pub refused-as : (why : Refusal) → actionOf image h selectors answer r ≡ Refuse why → Between 22 23 why
   unfolding actionOf
   refused-as why e = go (typedOf (r .kind)) e
     where
       Told : Kind → Target → Type 0
-      Told kind t = toTarget selectors answer r kind t ≡ Refuse why → (numberOf why ≡ 22) ⊎ (numberOf why ≡ 23)
+      Told kind t = toTarget selectors answer r kind t ≡ Refuse why → Between 22 23 why
 
-      because : (reason : Refusal) → TargetReason reason → Refuse reason ≡ Refuse why → (numberOf why ≡ 22) ⊎ (numberOf why ≡ 23)
+      because : (reason : Refusal) → TargetReason reason → Refuse reason ≡ Refuse why → Between 22 23 why
       because reason t z =
           let same : why ≡ reason = cc in
-          inr (rw same t)
+          rw same (omega (arith, t))
 
       in-segment : (kind : Kind) (segment offset : ℕ) → lacks (h .segments .count) segment ≡ false → Told kind (Segment segment offset)
       in-segment kind segment offset lacked z = choose (ltb (length selectors) segment) z
         where
-          choose : (t : Bool) → decide Refuse ((t ⇒ TargetSegment) ∷ []) (applyTo kind r offset (selectorOf selectors segment)) ≡ Refuse why → (numberOf why ≡ 22) ⊎ (numberOf why ≡ 23)
+          choose : (t : Bool) → decide Refuse ((t ⇒ TargetSegment) ∷ []) (applyTo kind r offset (selectorOf selectors segment)) ≡ Refuse why → Between 22 23 why
           choose true q = because TargetSegment refl q
           choose false q = never cc
 
-      go : (typed : Typed) → ofType selectors answer r typed (targetOf image h r) ≡ Refuse why → (numberOf why ≡ 22) ⊎ (numberOf why ≡ 23)
+      go : (typed : Typed) → ofType selectors answer r typed (targetOf image h r) ≡ Refuse why → Between 22 23 why
       go Unknown z =
           let same : why ≡ FixupType = cc in
-          inl (rw same)
+          rw same (omega arith)
       go (Known kind) z = target-cases image h r (Told kind) (in-segment kind) (λ z. never cc) (λ z. never cc) because z

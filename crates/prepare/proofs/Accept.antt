@@ -27,19 +27,8 @@ use Rattle.prepare.specs.Prepare.{Request, Prepared, storedOf, recordIn,
 use Rattle.prepare.specs.Sound.{Ready, Sound, Accepts}
 use Rattle.prepare.proofs.Ready.{walked, is-walked, was-ready}
 
-module _ (q : Request) (h : Header) (s : Segment) (ready : Ready q h s) where
-  pub stored-length : length (storedOf q s) ≡ s .stored
-  stored-length =
-      let in-image = record-accepted (q .image) h (q .number - 1) s (ready .segment) .stored in
-      omega (arith, length-take (s .stored) (drop (s .start) (q .image)), length-drop (s .start) (q .image))
-
-  pub stored-fits : length (storedOf q s) ≤ s .allocation
-  stored-fits = omega (arith, stored-length, record-accepted (q .image) h (q .number - 1) s (ready .segment) .allocation)
-
-  pub stored-small : Bytes (q .image) → length (storedOf q s) ≤ 65536
-  stored-small bytes = omega (arith, stored-fits, allocation-full (q .image) h (q .number - 1) s (ready .segment) bytes)
-
-  -- What the sites' theory calls resolved, in the records' own words, and the other way.
+-- What the sites' theory calls resolved, in the records' own words, and the other way.
+module _ (q : Request) (h : Header) (s : Segment) where
   pub from-sites : site.Sound (storedOf q s) (actionsOf q h s) → Sound q h s
   from-sites sound =
       record {
@@ -54,8 +43,8 @@ module _ (q : Request) (h : Header) (s : Segment) (ready : Ready q h s) where
       known : (i : ℕ) → i < s .records → KnownType (recordIn q s i) × Resolves (q .image) h (recordIn q s i)
       known i k = fixup.known (q .image) h (q .selectors) (answerOf q i) (recordIn q s i) (each-all site.Resolved (s .records) (actionIn q h s) (sound .resolved) i k)
 
-  unfoldable pub to-sites : Sound q h s → site.Sound (storedOf q s) (actionsOf q h s)
-  to-sites sound =
+  unfoldable pub to-sites : h .segments .count ≤ length (q .selectors) → Sound q h s → site.Sound (storedOf q s) (actionsOf q h s)
+  to-sites enough sound =
       record {
         resolved = all-each site.Resolved (s .records) (actionIn q h s) good;
         sites = sound .sites;
@@ -65,7 +54,19 @@ module _ (q : Request) (h : Header) (s : Segment) (ready : Ready q h s) where
       }
     where
       good : (i : ℕ) → i < s .records → site.Resolved (actionIn q h s i)
-      good i k = fixup.resolved (q .image) h (q .selectors) (answerOf q i) (recordIn q s i) (ready .selectors) (each-all KnownType (s .records) (recordIn q s) (sound .types) i k) (each-all (Resolves (q .image) h) (s .records) (recordIn q s) (sound .targets) i k)
+      good i k = fixup.resolved (q .image) h (q .selectors) (answerOf q i) (recordIn q s i) enough (each-all KnownType (s .records) (recordIn q s) (sound .types) i k) (each-all (Resolves (q .image) h) (s .records) (recordIn q s) (sound .targets) i k)
+
+module _ (q : Request) (h : Header) (s : Segment) (ready : Ready q h s) where
+  pub stored-length : length (storedOf q s) ≡ s .stored
+  stored-length =
+      let in-image = record-accepted (q .image) h (q .number - 1) s (ready .segment) .stored in
+      omega (arith, length-take (s .stored) (drop (s .start) (q .image)), length-drop (s .start) (q .image))
+
+  pub stored-fits : length (storedOf q s) ≤ s .allocation
+  stored-fits = omega (arith, stored-length, record-accepted (q .image) h (q .number - 1) s (ready .segment) .allocation)
+
+  pub stored-small : Bytes (q .image) → length (storedOf q s) ≤ 65536
+  stored-small bytes = omega (arith, stored-fits, allocation-full (q .image) h (q .number - 1) s (ready .segment) bytes)
 
   -- What an accepted segment is made from.
   pub made : (sites : ℕ) (bytes marks : List ℕ) → walked q h s ≡ Prepared sites bytes marks → (sound : Sound q h s) × (Prepared sites bytes marks ≡ outcomeOf q s (Walked (sound .sites)))
@@ -75,7 +76,7 @@ module _ (q : Request) (h : Header) (s : Segment) (ready : Ready q h s) where
       go : (w : Walk) → walkedOf q h s ≡ w → outcomeOf q s w ≡ Prepared sites bytes marks → (sound : Sound q h s) × (Prepared sites bytes marks ≡ outcomeOf q s (Walked (sound .sites)))
       go (Walked found) p z =
           let a = accepted-sound (storedOf q s) (actionsOf q h s) found p in
-          (from-sites (a .0), rw (← (a .1)) (sym z))
+          (from-sites q h s (a .0), rw (← (a .1)) (sym z))
       go (Stopped why number) p z = never cc
 
   pub accepts : Bytes (q .image) → Accepts q ↔ Sound q h s
@@ -90,7 +91,7 @@ module _ (q : Request) (h : Header) (s : Segment) (ready : Ready q h s) where
 
       back : Sound q h s → Accepts q
       back sound =
-          let walk = sound-accepted (storedOf q s) (actionsOf q h s) (to-sites sound) (stored-small bytes) in
+          let walk = sound-accepted (storedOf q s) (actionsOf q h s) (to-sites q h s (ready .selectors) sound) (stored-small bytes) in
           let some = outcome-some (sound .sites) in
           (some .0, some .1, some .2, is-walked q h s ready ∙ rw walk (some .3))
 

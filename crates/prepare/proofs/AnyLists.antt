@@ -20,8 +20,8 @@ use Rattle.site.proofs.Shape.{blankAction, blankWalk, walk-blank, marks-blank}
 use Rattle.prepare.specs.Prepare.{Request, Outcome, Prepared, Refused, refuse, storedOf, recordIn, actionIn, answerOf, actionsOf, sizeChecks, walkedOf, outcomeOf, prepareOf}
 use Rattle.prepare.specs.Sound.{Accepts}
 use Rattle.prepare.specs.Alike.{withLists, butBytes}
-use Rattle.prepare.proofs.Ready.{walked}
-use Rattle.prepare.proofs.Related.{sized, related}
+use Rattle.prepare.proofs.Ready.{walked, sized}
+use Rattle.prepare.proofs.Related.{related}
 
 decide-but : (checks : List (Check Refusal)) (a b : Outcome) → butBytes a ≡ butBytes b → butBytes (decide refuse checks a) ≡ butBytes (decide refuse checks b)
 decide-but [] a b e = e

@@ -20,4 +20,4 @@ use Rattle.prepare.specs.Examples.{Holds, examples}
 
 pub hold : All Holds examples
 unfolding number headerOf headerChecks tablesOf leaves onHeader lacks fullOf storedOf segmentAt segmentChecks recordOf kindOf unsoundFrom bundleAt bundleChecks stepOf tables.tableFrom tables.tableOf tableOf slotIn ordinalIn ordinalOf stringAt recordAt typedOf internalTarget targetOf actionOf written followFrom walkFrom sizeChecks prepareOf
-hold = (refl, (refl, (refl, (refl, (refl, (refl, (refl, (refl, (refl, (refl, (refl, (refl, (refl, (refl, (refl, (refl, (refl, (refl, (refl, (refl, (refl, (refl, tt))))))))))))))))))))))
+hold = (refl, (refl, (refl, (refl, (refl, (refl, (refl, (refl, (refl, (refl, (refl, (refl, (refl, (refl, (refl, (refl, (refl, ((λ number. refl), ((λ number. refl), (refl, tt))))))))))))))))))))

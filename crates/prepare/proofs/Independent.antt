@@ -15,7 +15,8 @@ use Rattle.fixup.proofs.Agree.{agree}
 use Rattle.site.specs.Walk.{Walk, Walked, Stopped}
 use Rattle.prepare.specs.Prepare.{Request, recordIn, actionIn, answerOf, actionsOf, sizeChecks, walkedOf, outcomeOf, prepareOf}
 use Rattle.prepare.specs.Alike.{withLists, Alike}
-use Rattle.prepare.proofs.Related.{sized, related}
+use Rattle.prepare.proofs.Ready.{sized}
+use Rattle.prepare.proofs.Related.{related}
 
 module _ (q : Request) (selectors answers : List ℕ) (alike : Alike q selectors answers) where
   -- An outcome looks at the lists only through the walk.

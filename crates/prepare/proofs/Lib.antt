@@ -2,6 +2,8 @@ pub mod Ready
 pub mod Accept
 pub mod Order
 pub mod Deliver
+pub mod Reject
+pub mod Demands
 pub mod Related
 pub mod Independent
 pub mod AnyLists

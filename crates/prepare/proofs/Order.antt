@@ -1,7 +1,7 @@
 -- Demand 3: the steps of all records in every order.
 --     every-order   they end in the prepared bytes
 --     stored-sites  the sites that each writes in the unfixed segment are those of its stored chain, or its single one
---     own-sites     each changes only its own record's sites, on any buffer
+--     own-sites     each changes only what is written at its own record's sites, on any buffer
 -- Assumes nothing.
 use mathlib.Core.Path.{_≡_, refl, sym, _∙_}
 use mathlib.Core.List.{List, [], _∷_, map, Perm, Perm·map}
@@ -18,7 +18,7 @@ use Rattle.segment.specs.declared.Segment.{Segment}
 use Rattle.fixup.specs.Record.{recordAt, bytesAt}
 use Rattle.fixup.specs.Action.{actionOf}
 use Rattle.fixup.proofs.Fields.{own-bytes}
-use Rattle.site.specs.Site.{InSpan}
+use Rattle.site.specs.Exact.{IsWritten}
 use Rattle.site.specs.Prepared.{unfixed, prepared}
 use Rattle.site.specs.Walk.{Walked}
 use Rattle.site.specs.Step as site
@@ -68,7 +68,7 @@ every-order q h s ready {count} {bytes} {marks} e records p =
         let b : prepared (storedOf q s) (s .allocation) (sound .sites) ≡ bytes = cc in
         let permuted : Perm (actionsOf q h s) (map (action q h) records) = rw (← (actions-are q h s)) (Perm·map (action q h) p) in
         steps-are q h (ready .header) records (unfixed (storedOf q s) (s .allocation))
-        ∙ site-order.every-order (storedOf q s) (s .allocation) (stored-fits q h s ready) (actionsOf q h s) (to-sites q h s ready sound) (map (action q h) records) permuted
+        ∙ site-order.every-order (storedOf q s) (s .allocation) (stored-fits q h s ready) (actionsOf q h s) (to-sites q h s (ready .selectors) sound) (map (action q h) records) permuted
         ∙ b
 
 -- The sites of all records as the steps find them are the sites as stored.
@@ -76,14 +76,14 @@ pub stored-sites : (q : Request) (h : Header) (s : Segment) → Ready q h s → 
 unfolding to-sites
 stored-sites q h s ready sound =
     visits-are q h (ready .header) (unfixed (storedOf q s) (s .allocation)) (givenOf q s)
-    ∙ rw (actions-are q h s) (site-order.stored-sites (storedOf q s) (s .allocation) (stored-fits q h s ready) (actionsOf q h s) (to-sites q h s ready sound))
+    ∙ rw (actions-are q h s) (site-order.stored-sites (storedOf q s) (s .allocation) (stored-fits q h s ready) (actionsOf q h s) (to-sites q h s (ready .selectors) sound))
 
 module _ (image selectors : List ℕ) (g : Given) (buffer : List ℕ) where
-  pub own-sites : (place : ℕ) → All (λ x. InSpan place x → ⊥) (visitedOf image selectors g buffer) → byteAt (stepOf image selectors g buffer) place ≡ byteAt buffer place
+  pub own-sites : (place : ℕ) → All (λ x. IsWritten buffer place x → ⊥) (visitedOf image selectors g buffer) → byteAt (stepOf image selectors g buffer) place ≡ byteAt buffer place
   unfolding stepOf visitedOf onHeader
   own-sites place free = go (headerOf image) free
     where
-      go : (a : header.Answer) → All (λ x. InSpan place x → ⊥) (onHeader a (λ why. []) (λ h. site.visited (actionOf image h selectors (g .answer) (recordAt (g .bytes) 0)) buffer)) → byteAt (onHeader a (λ why. buffer) (λ h. site.stepOf (actionOf image h selectors (g .answer) (recordAt (g .bytes) 0)) buffer)) place ≡ byteAt buffer place
+      go : (a : header.Answer) → All (λ x. IsWritten buffer place x → ⊥) (onHeader a (λ why. []) (λ h. site.visited (actionOf image h selectors (g .answer) (recordAt (g .bytes) 0)) buffer)) → byteAt (onHeader a (λ why. buffer) (λ h. site.stepOf (actionOf image h selectors (g .answer) (recordAt (g .bytes) 0)) buffer)) place ≡ byteAt buffer place
       go (headers.Accepted h) k = site-step.own-sites (actionOf image h selectors (g .answer) (recordAt (g .bytes) 0)) buffer place k
       go (headers.Refused why) k = refl
 

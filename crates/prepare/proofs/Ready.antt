@@ -1,73 +1,100 @@
 -- What the checks before the records say.
 --     is-walked   where they are passed, preparing answers what going over the records gives
---     was-ready   what isn't refused has passed them
+--     came        preparing answers a refusal from before the records, or they are passed and it answers that
+--     was-ready   so what isn't refused has passed them
 -- Assumes nothing.
 use mathlib.Core.Path.{_≡_, refl}
-use mathlib.Core.Bool.{Bool, true, false}
+use mathlib.Core.Logic.{_⊎_, inl, inr}
+use mathlib.Core.Bool.{false}
 use mathlib.Core.List.{List, [], _∷_}
 use Prim.Native.Nat.{ℕ, _-_}
+use native.Mathlib.Omega.{arith}
 use borrow.Author.Tests.{ltb-false, le-ltb}
 use Rattle.checks.specs.Checks.{_⇒_, decide, Passed}
-use Rattle.checks.proofs.Checks.{passed, answered, decided}
+use Rattle.checks.proofs.Checks.{decided, tried}
 use Rattle.checks.proofs.Impossible.{never}
-use Rattle.refusal.specs.declared.Refusal.the-variants.{NoSuchNumber}
+use Rattle.refusal.specs.Number.{Between}
+use Rattle.refusal.specs.declared.Refusal.{Refusal}
+use Rattle.refusal.specs.declared.Refusal.the-variants.{NoSuchNumber, SelectorsShort, AnswersShort, OutputShort, MarksShort}
 use Rattle.header.specs.Header.{headerOf, onHeader, lacks}
 use Rattle.header.specs.declared.Header.{Header}
 use Rattle.header.specs.declared.Answer as header
 use Rattle.header.specs.declared.Answer.the-variants as headers
+use Rattle.header.proofs.Reasons as header-reasons
 use Rattle.segment.specs.Segment.{recordOf, onSegment}
 use Rattle.segment.specs.declared.Segment.{Segment}
 use Rattle.segment.specs.declared.Answer as segment
 use Rattle.segment.specs.declared.Answer.the-variants as segments
+use Rattle.segment.proofs.Reasons as segment-reasons
 use Rattle.tables.specs.Table as tables
 use Rattle.tables.specs.Table.{onTable}
 use Rattle.bundle.specs.declared.Bundle.{Bundle}
+use Rattle.entry.specs.Ordinal.{tableBytes}
 use Rattle.entry.specs.Table.{EntryTable}
-use Rattle.prepare.specs.Prepare.{Request, Outcome, Prepared, Refused, refuse, walkedOf, entriesOf, sizeChecks, outcomeOf, prepareOf}
+use Rattle.entry.proofs.Reasons as entry-reasons
+use Rattle.prepare.specs.Prepare.{Request, Outcome, Prepared, refuse, walkedOf, entriesOf, sizeChecks, outcomeOf, prepareOf}
 use Rattle.prepare.specs.Sound.{Ready}
 
 -- What going over the records gives.
 abbrev pub walked : Request → Header → Segment → Outcome
 walked q h s = outcomeOf q s (walkedOf q h s)
 
--- A refusal from before the records names no record, and one that does came later. Whatever is neither is an answer.
-abbrev IsWalked : Request → Outcome → Type 0
+-- What follows of a segment.
+abbrev pub sized : Request → Header → Segment → Outcome
+sized q h s = decide refuse (sizeChecks q h s) (walked q h s)
+
+-- A refusal from before the records, and what going over the records gave.
+abbrev pub IsEarly : Outcome → Type 0
+IsEarly o = (why : Refusal) × Between 1 21 why × (refuse why ≡ o)
+
+abbrev pub IsWalked : Request → Outcome → Type 0
 IsWalked q o = (h : Header) × (s : Segment) × Ready q h s × (walked q h s ≡ o)
 
-module _ (q : Request) (sites : ℕ) (bytes marks : List ℕ) where
-  abbrev answer : Outcome
-  answer = Prepared sites bytes marks
+module _ (q : Request) where
+  abbrev Came : Outcome → Type 0
+  Came o = IsEarly o ⊎ IsWalked q o
 
-  is-refusal : Outcome → Bool
-  is-refusal (Prepared n b m) = false
-  is-refusal (Refused why number) = true
+  early : (why : Refusal) → Between 1 21 why → Came (refuse why)
+  early why between = inl (why, between, refl)
 
-  sized : (h : Header) (s : Segment) (bundles : List Bundle) → headerOf (q .image) ≡ headers.Accepted h → lacks (h .segments .count) (q .number) ≡ false → entriesOf q h ≡ tables.Sound bundles → recordOf (q .image) h (q .number - 1) ≡ segments.Accepted s → decide refuse (sizeChecks q h s) (walked q h s) ≡ answer → IsWalked q answer
-  unfolding sizeChecks is-refusal
-  sized h s bundles header number entries segment e =
-      let p = passed refuse is-refusal (λ why. refl) (sizeChecks q h s) (walked q h s) (rw e) in
-      let a = answered refuse is-refusal (λ why. refl) (sizeChecks q h s) (walked q h s) (rw e) in
-      (h, s, record { header = header; number = number; bundles = bundles; entries = entries; segment = segment; selectors = ltb-false _ _ (p .0); answers = ltb-false _ _ (p .1 .0); output = ltb-false _ _ (p .1 .1 .0); marks = ltb-false _ _ (p .1 .1 .1 .0) }, cc)
+  -- What follows of a header whose segment table has the number.
+  abbrev numbered : Header → Outcome
+  numbered h = onTable (entriesOf q h) refuse (λ bundles. onSegment (recordOf (q .image) h (q .number - 1)) refuse (sized q h))
 
-  listed : (h : Header) (bundles : List Bundle) → headerOf (q .image) ≡ headers.Accepted h → lacks (h .segments .count) (q .number) ≡ false → entriesOf q h ≡ tables.Sound bundles → (a : segment.Answer) → recordOf (q .image) h (q .number - 1) ≡ a → onSegment a refuse (λ s. decide refuse (sizeChecks q h s) (walked q h s)) ≡ answer → IsWalked q answer
-  listed h bundles header number entries (segments.Accepted s) segment e = sized h s bundles header number entries segment e
-  listed h bundles header number entries (segments.Refused why) segment e = never cc
+  module _ (h : Header) (header : headerOf (q .image) ≡ headers.Accepted h) (number : lacks (h .segments .count) (q .number) ≡ false) where
+    of-segment : (s : Segment) (bundles : List Bundle) → entriesOf q h ≡ tables.Sound bundles → recordOf (q .image) h (q .number - 1) ≡ segments.Accepted s → Came (sized q h s)
+    unfolding sizeChecks
+    of-segment s bundles entries segment = tried refuse Came (sizeChecks q h s) (walked q h s) (early SelectorsShort (omega arith), (early AnswersShort (omega arith), (early OutputShort (omega arith), (early MarksShort (omega arith), tt)))) fits
+      where
+        fits : Passed (sizeChecks q h s) → Came (walked q h s)
+        fits p =
+            inr (h, s, record { header = header; number = number; bundles = bundles; entries = entries; segment = segment; selectors = ltb-false _ _ (p .0); answers = ltb-false _ _ (p .1 .0); output = ltb-false _ _ (p .1 .1 .0); marks = ltb-false _ _ (p .1 .1 .1 .0) }, refl)
 
-  numbered : (h : Header) → headerOf (q .image) ≡ headers.Accepted h → lacks (h .segments .count) (q .number) ≡ false → (t : EntryTable) → entriesOf q h ≡ t → onTable t refuse (λ bundles. onSegment (recordOf (q .image) h (q .number - 1)) refuse (λ s. decide refuse (sizeChecks q h s) (walked q h s))) ≡ answer → IsWalked q answer
-  numbered h header number (tables.Sound bundles) entries e = listed h bundles header number entries (recordOf (q .image) h (q .number - 1)) refl e
-  numbered h header number (tables.Unsound why) entries e = never cc
+    of-number : Came (numbered h)
+    of-number = go (entriesOf q h) refl
+      where
+        of-record : (bundles : List Bundle) → entriesOf q h ≡ tables.Sound bundles → (a : segment.Answer) → recordOf (q .image) h (q .number - 1) ≡ a → Came (onSegment a refuse (sized q h))
+        of-record bundles entries (segments.Accepted s) e = of-segment s bundles entries e
+        of-record bundles entries (segments.Refused why) e = early why (omega (arith, segment-reasons.refused (q .image) h (q .number - 1) why e))
 
-  headed : (h : Header) → headerOf (q .image) ≡ headers.Accepted h → (lacking : Bool) → lacks (h .segments .count) (q .number) ≡ lacking → decide refuse ((lacking ⇒ NoSuchNumber) ∷ []) (onTable (entriesOf q h) refuse (λ bundles. onSegment (recordOf (q .image) h (q .number - 1)) refuse (λ s. decide refuse (sizeChecks q h s) (walked q h s)))) ≡ answer → IsWalked q answer
-  headed h header true number e = never cc
-  headed h header false number e = numbered h header number (entriesOf q h) refl e
+        go : (t : EntryTable) → entriesOf q h ≡ t → Came (onTable t refuse (λ bundles. onSegment (recordOf (q .image) h (q .number - 1)) refuse (sized q h)))
+        go (tables.Sound bundles) e = of-record bundles e (recordOf (q .image) h (q .number - 1)) refl
+        go (tables.Unsound why) e = early why (omega (arith, entry-reasons.refused (tableBytes (q .image) h) (h .segments .count) why e))
 
-  pub was-ready : prepareOf q ≡ answer → IsWalked q answer
+  pub came : Came (prepareOf q)
   unfolding prepareOf onHeader
-  was-ready e = go (headerOf (q .image)) refl
+  came = go (headerOf (q .image)) refl
     where
-      go : (a : header.Answer) → headerOf (q .image) ≡ a → IsWalked q answer
-      go (headers.Accepted h) p = headed h p (lacks (h .segments .count) (q .number)) refl (rw p at e)
-      go (headers.Refused why) p = let z : refuse why ≡ answer = rw p at e in never cc
+      go : (a : header.Answer) → headerOf (q .image) ≡ a → Came (prepareOf q)
+      go (headers.Accepted h) e = rw e (tried refuse Came ((lacks (h .segments .count) (q .number) ⇒ NoSuchNumber) ∷ []) (numbered h) (early NoSuchNumber (omega arith), tt) (λ p. of-number h e (p .0)))
+      go (headers.Refused why) e = rw e (early why (omega (arith, header-reasons.refused (q .image) why e)))
+
+  pub was-ready : (sites : ℕ) (bytes marks : List ℕ) → prepareOf q ≡ Prepared sites bytes marks → IsWalked q (Prepared sites bytes marks)
+  was-ready sites bytes marks e = go (rw e at came)
+    where
+      go : Came (Prepared sites bytes marks) → IsWalked q (Prepared sites bytes marks)
+      go (inl r) = let z = r .2 in never cc
+      go (inr w) = w
 
 -- The other way.
 sizes : (q : Request) (h : Header) (s : Segment) → Ready q h s → Passed (sizeChecks q h s)

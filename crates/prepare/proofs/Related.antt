@@ -17,13 +17,9 @@ use Rattle.segment.specs.declared.Answer.the-variants as segments
 use Rattle.tables.specs.Table as tables
 use Rattle.tables.specs.Table.{onTable}
 use Rattle.entry.specs.Table.{EntryTable}
-use Rattle.prepare.specs.Prepare.{Request, Outcome, refuse, entriesOf, sizeChecks, prepareOf}
+use Rattle.prepare.specs.Prepare.{Request, Outcome, refuse, entriesOf, prepareOf}
 use Rattle.prepare.specs.Alike.{withLists}
-use Rattle.prepare.proofs.Ready.{walked}
-
--- What follows of a segment.
-abbrev pub sized : Request → Header → Segment → Outcome
-sized q h s = decide refuse (sizeChecks q h s) (walked q h s)
+use Rattle.prepare.proofs.Ready.{sized}
 
 module _ (q : Request) (selectors answers : List ℕ) (R : Outcome → Outcome → Type 0) (same : (o : Outcome) → R o o) (of-segment : (h : Header) (s : Segment) → headerOf (q .image) ≡ headers.Accepted h → recordOf (q .image) h (q .number - 1) ≡ segments.Accepted s → R (sized q h s) (sized (withLists q selectors answers) h s)) where
   -- What follows of a header, once the number is known good.

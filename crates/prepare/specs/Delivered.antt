@@ -9,9 +9,15 @@ use Rattle.header.specs.declared.Header.{Header}
 use Rattle.segment.specs.declared.Segment.{Segment}
 use Rattle.site.specs.Exact.{Exact, Marked, Stands}
 use Rattle.site.specs.Sound.{inChains, singles}
-use Rattle.prepare.specs.Prepare.{Request, storedOf}
+use Rattle.prepare.specs.Prepare.{Request, Prepared, storedOf, outputAfter}
 use Rattle.prepare.specs.Sound.{Sound}
 use Rattle.prepare.specs.Step.{EveryOrder}
+
+-- What a buffer holds in which a segment was prepared: the segment, and behind it what was there before.
+pub record Holds (allocation : ℕ) (bytes before after : List ℕ) : Type 0 where
+  pub size : length after ≡ length before
+  pub segment : (place : ℕ) → place < allocation → byteAt after place ≡ byteAt bytes place
+  pub behind : (place : ℕ) → allocation ≤ place → byteAt after place ≡ byteAt before place
 
 pub record Delivered (q : Request) (h : Header) (s : Segment) (count : ℕ) (bytes marks : List ℕ) : Type 0 where
   pub sound : Sound q h s
@@ -19,6 +25,8 @@ pub record Delivered (q : Request) (h : Header) (s : Segment) (count : ℕ) (byt
   -- changed."
   pub exact : Exact (storedOf q s) (s .allocation) (sound .sites) bytes
   pub stands : All (λ x. Stands (x .fixup .kind) (x .fixup .additive) (x .fixup) (storedOf q s) (x .at) bytes) (sound .sites)
+  -- "output past the allocation is unchanged".
+  pub output : (before : List ℕ) → length before ≡ q .output → Holds (s .allocation) bytes before (outputAfter (Prepared count bytes marks) before)
   -- "a mark is 1 exactly at a byte of a span, else 0."
   pub marked : Marked (q .marks) (sound .sites) marks
   -- "The reported site count is the number of sites in the stored chains plus the single additive ones, and at most the
@@ -28,10 +36,3 @@ pub record Delivered (q : Request) (h : Header) (s : Segment) (count : ℕ) (byt
   -- "Carrying out all records by document 01's step, one at a time on the buffer that the last one left, in every order of the
   -- whole list, ends in exactly the prepared bytes."
   pub order : EveryOrder q s bytes
-
--- What a buffer holds in which a segment was prepared: the segment, and behind it what was there before. "output past the
--- allocation is unchanged".
-pub record Holds (allocation : ℕ) (bytes before after : List ℕ) : Type 0 where
-  pub size : length after ≡ length before
-  pub segment : (place : ℕ) → place < allocation → byteAt after place ≡ byteAt bytes place
-  pub behind : (place : ℕ) → allocation ≤ place → byteAt after place ≡ byteAt before place

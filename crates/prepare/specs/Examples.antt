@@ -45,14 +45,17 @@ chain type site = type ∷ site ∷ 1 ∷ 0x1234 ∷ []
 abbrev pub additive : ℕ → ℕ → ℕ → List ℕ
 additive type site target = (0x0400 + type) ∷ site ∷ 1 ∷ target ∷ []
 
--- What is asked, and the numbers of the answer; for a prepared segment its bytes behind them.
+-- What is asked, and the numbers of the answer; for a prepared segment its bytes behind them. An ordinal is asked for by its
+-- number, or each one is.
 pub data Example : Type 0 where
   prepare : Request → List ℕ → Example
   ordinal : List ℕ → ℕ → List ℕ → Example
+  each-ordinal : List ℕ → List ℕ → Example
 
 abbrev pub Holds : Example → Type 0
 Holds (prepare q answer) = valuesOf (prepareOf q) ++ outputAfter (prepareOf q) [] ≡ answer
 Holds (ordinal image number answer) = ordinals.valuesOf (ordinalOf image number) ≡ answer
+Holds (each-ordinal image answer) = (number : ℕ) → ordinals.valuesOf (ordinalOf image number) ≡ answer
 
 abbrev pub sites : ℕ → List ℕ → List ℕ
 sites count bytes = 0 ∷ 0 ∷ count ∷ bytes
@@ -97,10 +100,8 @@ examples =
     ∷ ordinal (p10 16) 3 (15 ∷ 0 ∷ 0 ∷ 0 ∷ [])
     ∷ ordinal (p10 16) 5 (15 ∷ 0 ∷ 0 ∷ 0 ∷ [])
     -- "P11 the same with byte count 15: 12. With count 0: empty, every ordinal 15."
-    ∷ ordinal (p10 15) 1 (12 ∷ 0 ∷ 0 ∷ 0 ∷ [])
-    ∷ ordinal (p10 15) 5 (12 ∷ 0 ∷ 0 ∷ 0 ∷ [])
-    ∷ ordinal (p10 0) 1 (15 ∷ 0 ∷ 0 ∷ 0 ∷ [])
-    ∷ ordinal (p10 0) 0 (15 ∷ 0 ∷ 0 ∷ 0 ∷ [])
+    ∷ each-ordinal (p10 15) (12 ∷ 0 ∷ 0 ∷ 0 ∷ [])
+    ∷ each-ordinal (p10 0) (15 ∷ 0 ∷ 0 ∷ 0 ∷ [])
     -- "P12 no records, sector 0, allocation 3: 00 00 00."
     ∷ prepare (request (imageOf (0 ∷ 0 ∷ 0 ∷ 3 ∷ []) 0 []) 3 0) (sites 0 (0x00 ∷ 0x00 ∷ 0x00 ∷ []))
     ∷ []

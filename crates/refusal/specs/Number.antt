@@ -1,5 +1,5 @@
 -- Document 01, "Refusal numbers and their order": the number of each refusal.
-use Prim.Native.Nat.{ℕ}
+use Prim.Native.Nat.{ℕ, _≤_}
 use Rattle.refusal.specs.declared.Refusal.{Refusal}
 use Rattle.refusal.specs.declared.Refusal.the-variants.{ImageShort, ImageLong, NoMz, NePlace, NoNe, Shift, SegmentTable, ModuleTable, EntryTable, NonresidentTable, NoSuchNumber, SegmentOutside, Iterated, AllocationShort, EntryTableEnds, EntryUnsound, OrdinalsOver, NoSuchOrdinal, ResidentNames, NonresidentNames, ImportedString, NoSuchName, ResourceTable, ResourceShift, NoSuchResource, ResourceOutside, SelectorsShort, AnswersShort, OutputShort, MarksShort, FixupType, TargetSegment, TargetModule, TargetOrdinal, TargetString, SpanOutside, SpanTaken, SitesOver}
 
@@ -69,3 +69,7 @@ numberOf SpanOutside = 24
 numberOf SpanTaken = 25
 -- "over 65,536 sites followed"
 numberOf SitesOver = 26
+
+-- That a refusal has one of the numbers from one to another.
+abbrev pub Between : ℕ → ℕ → Refusal → Type 0
+Between low high why = (low ≤ numberOf why) × (numberOf why ≤ high)

@@ -9,3 +9,4 @@ pub mod Over
 pub mod Written
 pub mod Count
 pub mod Shape
+pub mod Stop

@@ -1,5 +1,5 @@
 -- The laws of the step.
---     own-sites     on any buffer it changes no byte outside the spans of its own record's sites
+--     own-sites     on any buffer it changes no byte but those that are written at its own record's sites
 --     length-step   and keeps the buffer's length
 --     chain-step    on a buffer that has the stored bytes in the record's own spans, its sites are those of the stored chain,
 --                   and each is written as the stored bytes say
@@ -19,6 +19,7 @@ use Rattle.lists.specs.Lists.{All, Pairs, inTurn}
 use Rattle.lists.proofs.All.{all-map, all-both}
 use Rattle.site.specs.Site.{Site, siteOf, widthOf, endOf, InSpan, Inside, Apart, writtenOver, written, put}
 use Rattle.site.specs.Walk.{isLast}
+use Rattle.site.specs.Exact.{IsWritten}
 use Rattle.site.specs.Step.{stepFrom, stepOf, visitedFrom, visited}
 use Rattle.site.specs.Sound.{Chain, last, next}
 use Rattle.site.specs.declared.Kind.{Kind}
@@ -33,7 +34,18 @@ use Rattle.site.proofs.Spans.{wide, wide-chained, written-in-span}
 pub put-out : (bytes buffer : List ℕ) (s : Site) (p : ℕ) → (InSpan p s → ⊥) → byteAt (put bytes s buffer) p ≡ byteAt buffer p
 put-out bytes buffer s p h = sets-out buffer (s .at) (written bytes s) p (λ low high. h (written-in-span bytes s p (low, high)))
 
-own-from : (left : ℕ) (f : Fixup) (at : ℕ) (b : List ℕ) (p : ℕ) → All (λ s. InSpan p s → ⊥) (visitedFrom left f at b) → byteAt (stepFrom left f at b) p ≡ byteAt b p
+-- How many bytes are written at a site doesn't change with what stands there.
+over-length : (kind : Kind) (f : Fixup) (byte word byte′ word′ : ℕ) → length (writtenOver kind f byte word) ≡ length (writtenOver kind f byte′ word′)
+over-length LowByte f byte word byte′ word′ = refl
+over-length Selector f byte word byte′ word′ = refl
+over-length Far f byte word byte′ word′ = refl
+over-length Offset f byte word byte′ word′ = refl
+
+is-written : (bytes other : List ℕ) (p : ℕ) (s : Site) → IsWritten bytes p s → IsWritten other p s
+unfolding written
+is-written bytes other p s h = rw (over-length (s .fixup .kind) (s .fixup) (byteAt other (s .at)) (wordAt other (s .at)) (byteAt bytes (s .at)) (wordAt bytes (s .at))) h
+
+own-from : (left : ℕ) (f : Fixup) (at : ℕ) (b : List ℕ) (p : ℕ) → All (λ s. IsWritten b p s → ⊥) (visitedFrom left f at b) → byteAt (stepFrom left f at b) p ≡ byteAt b p
 unfolding stepFrom visitedFrom
 own-from zero f at b p h = refl
 own-from (suc left) f at b p h = go (ltb (length b) (endOf (siteOf f at))) (isLast f (wordAt b at)) (λ k. own-from left f (wordAt b at) (put b (siteOf f at) b) p k) h
@@ -41,12 +53,15 @@ own-from (suc left) f at b p h = go (ltb (length b) (endOf (siteOf f at))) (isLa
     after : List ℕ
     after = put b (siteOf f at) b
 
-    go : (past done : Bool) → (All (λ s. InSpan p s → ⊥) (visitedFrom left f (wordAt b at) after) → byteAt (stepFrom left f (wordAt b at) after) p ≡ byteAt after p) → All (λ s. InSpan p s → ⊥) (cond past [] (siteOf f at ∷ cond done [] (visitedFrom left f (wordAt b at) after))) → byteAt (cond past b (cond done after (stepFrom left f (wordAt b at) after))) p ≡ byteAt b p
-    go true done ih k = refl
-    go false true ih k = put-out b b (siteOf f at) p (k .0)
-    go false false ih k = ih (k .1) ∙ put-out b b (siteOf f at) p (k .0)
+    put-kept : (IsWritten b p (siteOf f at) → ⊥) → byteAt after p ≡ byteAt b p
+    put-kept k = sets-out b at (written b (siteOf f at)) p (λ low high. k (low, high))
 
-pub own-sites : (a : Action) (b : List ℕ) (p : ℕ) → All (λ s. InSpan p s → ⊥) (visited a b) → byteAt (stepOf a b) p ≡ byteAt b p
+    go : (past done : Bool) → (All (λ s. IsWritten after p s → ⊥) (visitedFrom left f (wordAt b at) after) → byteAt (stepFrom left f (wordAt b at) after) p ≡ byteAt after p) → All (λ s. IsWritten b p s → ⊥) (cond past [] (siteOf f at ∷ cond done [] (visitedFrom left f (wordAt b at) after))) → byteAt (cond past b (cond done after (stepFrom left f (wordAt b at) after))) p ≡ byteAt b p
+    go true done ih k = refl
+    go false true ih k = put-kept (k .0)
+    go false false ih k = ih (all-map (λ s. IsWritten b p s → ⊥) (λ s. IsWritten after p s → ⊥) (λ s n i. n (is-written after b p s i)) (visitedFrom left f (wordAt b at) after) (k .1)) ∙ put-kept (k .0)
+
+pub own-sites : (a : Action) (b : List ℕ) (p : ℕ) → All (λ s. IsWritten b p s → ⊥) (visited a b) → byteAt (stepOf a b) p ≡ byteAt b p
 own-sites Skip b p h = refl
 own-sites (Refuse why) b p h = refl
 own-sites (Apply f) b p h = own-from (length b) f (f .site) b p h

@@ -7,7 +7,7 @@ use Prim.Native.Nat.{ℕ, zero, suc, _+_}
 use native.Mathlib.Omega.{arith}
 use lib.ListN.{length}
 use Rattle.checks.proofs.Impossible.{never}
-use Rattle.tables.specs.Table.{Place, Step, Next, End, Stop, Table, Sound, Unsound, after, tableFrom, tableOf}
+use Rattle.tables.specs.Table.{Place, Step, Next, End, Stop, Table, Sound, Unsound, after, onStep, tableFrom, tableOf}
 use Rattle.tables.proofs.Query.{Numbered, numbered-append}
 
 module _ {A W : Type 0} (step : Place → Step A W) (late : W) (P : Place → List A → Type 0) (none : (s : Place) → step s ≡ End → P s []) (more : (s : Place) (xs : List A) (t : Place) (ys : List A) → step s ≡ Next xs t → P t ys → P s (xs ++ ys)) where
@@ -45,3 +45,27 @@ table-numbers {A} step late number steps = sound-table step late (λ (p : Place)
         let s = steps p xs t e in
         let behind : suc (t .used) ≡ suc (p .used) + length xs = omega (arith, s .1) in
         numbered-append number (suc (p .used)) xs ys (s .0) (rw behind at n)
+
+-- What holds of the reason of each step that stops, and of `late`, holds of the reason for which a table is unsound.
+module _ {A W : Type 0} (step : Place → Step A W) (late : W) (P : W → Type 0) (of-late : P late) (of-step : (p : Place) (why : W) → step p ≡ Stop why → P why) where
+  abbrev In : Table A W → Type 0
+  In (Sound xs) = Unit
+  In (Unsound why) = P why
+
+  after-in : (xs : List A) (t : Table A W) → In t → In (after xs t)
+  after-in xs (Sound ys) h = tt
+  after-in xs (Unsound why) h = h
+
+  table-in : (turns : ℕ) (p : Place) → In (tableFrom step late turns p)
+  unfolding tableFrom
+  table-in zero p = of-late
+  table-in (suc turns) p = go (step p) refl (λ t. table-in turns t)
+    where
+      go : (r : Step A W) → step p ≡ r → ((t : Place) → In (tableFrom step late turns t)) → In (onStep r Unsound (Sound []) (λ xs t. after xs (tableFrom step late turns t)))
+      go (Stop why) e ih = of-step p why e
+      go End e ih = tt
+      go (Next xs t) e ih = after-in xs (tableFrom step late turns t) (ih t)
+
+  pub unsound-table : (limit : ℕ) (p : Place) (why : W) → tableOf step late limit p ≡ Unsound why → P why
+  unfolding tableOf
+  unsound-table limit p why e = rw e at (table-in (suc limit) p)
