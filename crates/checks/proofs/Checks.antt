@@ -3,6 +3,7 @@
 --     answered   and is then the one after the last check
 --     decided    where every check passed, that is the answer
 --     tried      what holds of each refusal, and of the answer where every check passed, holds of what the list decides
+--     because    so a refusal before an answer that is none has one of the list's reasons
 -- Assumes nothing.
 use mathlib.Core.Path.{_≡_, refl, sym, _∙_}
 use mathlib.Core.Bool.{Bool, true, false}
@@ -18,6 +19,11 @@ pub tried : {W A : Type 0} (refuse : W → A) (P : A → Type 0) (checks : List 
 tried refuse P [] a r p = p tt
 tried refuse P ((true ⇒ why) ∷ rest) a r p = r .0
 tried refuse P ((false ⇒ why) ∷ rest) a r p = tried refuse P rest a (r .1) (λ k. p (refl, k))
+
+pub because : {W A : Type 0} (refuse : W → A) → ((w w′ : W) → refuse w ≡ refuse w′ → w ≡ w′) → (P : W → Type 0) (checks : List (Check W)) (a : A) → Reasons P checks → (why : W) → (a ≡ refuse why → ⊥) → decide refuse checks a ≡ refuse why → P why
+because refuse same P [] a r why none e = absurd (none e)
+because refuse same P ((true ⇒ reason) ∷ rest) a r why none e = rw (same reason why e) at (r .0)
+because refuse same P ((false ⇒ reason) ∷ rest) a r why none e = because refuse same P rest a (r .1) why none e
 
 -- `is-refusal` tells refusals from answers.
 module _ {W A : Type 0} (refuse : W → A) (is-refusal : A → Bool) (refused : (why : W) → is-refusal (refuse why) ≡ true) where
