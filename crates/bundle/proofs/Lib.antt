@@ -1,4 +1,4 @@
 pub mod Went
 pub mod Entries
 pub mod Widths
-pub mod Reasons
+pub mod Why

@@ -1,6 +1,6 @@
 -- A list of checks in a fixed order. Document 01: "Bad input gets one refusal number", the first in the order given there.
 use mathlib.Core.Path.{_≡_}
-use mathlib.Core.Bool.{Bool, false, cond}
+use mathlib.Core.Bool.{Bool, true, false, cond}
 use mathlib.Core.List.{List, [], _∷_}
 
 infix 25 _⇒_
@@ -22,3 +22,8 @@ Passed ((fails ⇒ why) ∷ rest) = (fails ≡ false) × Passed rest
 abbrev pub Reasons : {W : Type 0} → (W → Type 0) → List (Check W) → Type 0
 Reasons P [] = Unit
 Reasons P ((fails ⇒ why) ∷ rest) = P why × Reasons P rest
+
+-- That it holds of each where its check is the first that fails.
+abbrev pub First : {W : Type 0} → (W → Type 0) → List (Check W) → Type 0
+First P [] = Unit
+First P ((fails ⇒ why) ∷ rest) = (fails ≡ true → P why) × (fails ≡ false → First P rest)

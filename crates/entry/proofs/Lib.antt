@@ -5,4 +5,4 @@ pub mod Induction
 pub mod Follow
 pub mod Resolves
 pub mod Segments
-pub mod Reasons
+pub mod Why

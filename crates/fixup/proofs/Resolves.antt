@@ -1,21 +1,21 @@
 -- A record's type and target decide alone whether it is refused, where there are as many selectors as segments.
+--     refused-as      a record that is refused is of no known type, or else its target doesn't resolve
 --     resolved        a record of a known type whose target resolves is not refused
 --     known           a record that is not refused is of a known type, and its target resolves
---     refused-as      a record that is refused is so by its type or its target: 22 or 23
+--     refused-number  22 or 23
 -- Assumes nothing.
 use mathlib.Core.Path.{_≡_, refl}
 use mathlib.Core.Logic.{inl, inr}
 use mathlib.Core.Bool.{Bool, true, false}
-use mathlib.Core.List.{List, [], _∷_}
+use mathlib.Core.List.{List}
 use Prim.Native.Nat.{ℕ, _≤_}
 use native.Mathlib.Omega.{arith}
 use borrow.Author.Tests.{le-ltb, eqb-true}
-use lib.Dec.{ltb, eqb}
+use lib.Dec.{eqb}
 use lib.ListN.{length}
 use Rattle.checks.proofs.Impossible.{never}
-use Rattle.checks.specs.Checks.{_⇒_, decide}
 use Rattle.refusal.specs.declared.Refusal.{Refusal}
-use Rattle.refusal.specs.declared.Refusal.the-variants.{FixupType, TargetSegment}
+use Rattle.refusal.specs.declared.Refusal.the-variants.{FixupType}
 use Rattle.header.specs.Header.{lacks}
 use Rattle.header.specs.declared.Header.{Header}
 use Rattle.header.proofs.Numbered.{has}
@@ -31,7 +31,7 @@ use Rattle.fixup.specs.declared.Target.the-variants.{Segment, Unresolved
 use Rattle.fixup.specs.Record.{typedOf}
 use Rattle.fixup.specs.Target.{targetOf}
 use Rattle.refusal.specs.Number.{Between}
-use Rattle.fixup.specs.Action.{applyTo, selectorOf, toTarget, ofType, actionOf, KnownType}
+use Rattle.fixup.specs.Action.{toTarget, ofType, actionOf, KnownType, RefusedAs, type-unknown, target-unresolved}
 use Rattle.fixup.specs.Resolves.{Resolves}
 use Rattle.fixup.proofs.Targets.{TargetReason, target-cases, resolves-not, resolves}
 
@@ -55,24 +55,41 @@ found-type r found = go (eqb (r .kind) 0) (eqb (r .kind) 2) (eqb (r .kind) 3) (e
     go false false false false a b c d = absurd (found (rw (a, b, c, d)))
 
 module _ (image : List ℕ) (h : Header) (selectors : List ℕ) (answer : ℕ) (r : Record) where
-  pub resolved : h .segments .count ≤ length selectors → KnownType r → Resolves image h r → Resolved (actionOf image h selectors answer r)
+  pub refused-as : h .segments .count ≤ length selectors → (why : Refusal) → actionOf image h selectors answer r ≡ Refuse why → RefusedAs image h r why
   unfolding actionOf
-  resolved enough known target why e = go (typedOf (r .kind)) refl e
+  refused-as enough why e = go (typedOf (r .kind)) refl e
     where
       -- What is asked of a target, for each kind of it.
-      Good : Kind → Target → Type 0
-      Good kind t = ((other : Refusal) → t ≡ Unresolved other → ⊥) → toTarget selectors answer r kind t ≡ Refuse why → ⊥
+      Told : Kind → Target → Type 0
+      Told kind t = ((other : Refusal) → t ≡ Unresolved other → Resolves image h r → ⊥) → toTarget selectors answer r kind t ≡ Refuse why → RefusedAs image h r why
 
-      in-segment : (kind : Kind) (segment offset : ℕ) → lacks (h .segments .count) segment ≡ false → Good kind (Segment segment offset)
+      in-segment : (kind : Kind) (segment offset : ℕ) → lacks (h .segments .count) segment ≡ false → Told kind (Segment segment offset)
       in-segment kind segment offset lacked k z =
           let there = has (h .segments .count) segment lacked in
           let listed : segment ≤ length selectors = omega (arith, there .1) in
           let w = rw (le-ltb _ _ listed) at z in
           never cc
 
-      go : (typed : Typed) → typedOf (r .kind) ≡ typed → ofType selectors answer r typed (targetOf image h r) ≡ Refuse why → ⊥
-      go Unknown p z = type-found r known p
-      go (Known kind) p z = target-cases image h r (Good kind) (in-segment kind) (λ k z. never cc) (λ k z. never cc) (λ other reason k z. k other refl) (λ other k. resolves-not image h r other (target .0) (target .1) k) z
+      known-type : (kind : Kind) → typedOf (r .kind) ≡ Known kind → KnownType r
+      known-type kind p = found-type r (λ q. never cc)
+
+      go : (typed : Typed) → typedOf (r .kind) ≡ typed → ofType selectors answer r typed (targetOf image h r) ≡ Refuse why → RefusedAs image h r why
+      go Unknown p z =
+          let same : FixupType ≡ why = cc in
+          rw (← same) (type-unknown (λ k. type-found r k p))
+      go (Known kind) p z = target-cases image h r (Told kind) (in-segment kind) (λ k z. never cc) (λ k z. never cc) because (λ other k t. resolves-not image h r other (t .0) (t .1) k) z
+        where
+          because : (other : Refusal) → TargetReason other → Told kind (Unresolved other)
+          because other reason k z =
+              let same : other ≡ why = cc in
+              rw (← same) (target-unresolved (known-type kind p) (k other refl) reason)
+
+  pub resolved : h .segments .count ≤ length selectors → KnownType r → Resolves image h r → Resolved (actionOf image h selectors answer r)
+  resolved enough known target why e = go (refused-as enough why e)
+    where
+      go : {reason : Refusal} → RefusedAs image h r reason → ⊥
+      go (type-unknown n) = n known
+      go (target-unresolved k n is) = n target
 
   pub known : Resolved (actionOf image h selectors answer r) → KnownType r × Resolves image h r
   unfolding actionOf
@@ -85,28 +102,7 @@ module _ (image : List ℕ) (h : Header) (selectors : List ℕ) (answer : ℕ) (
       go Unknown why p q = go-typed p
       go (Known kind) why p q = ok why (rw (p, q))
 
-  -- The reasons for which a record is refused.
-  pub refused-as : (why : Refusal) → actionOf image h selectors answer r ≡ Refuse why → Between 22 23 why
-  unfolding actionOf
-  refused-as why e = go (typedOf (r .kind)) e
-    where
-      Told : Kind → Target → Type 0
-      Told kind t = toTarget selectors answer r kind t ≡ Refuse why → Between 22 23 why
-
-      because : (reason : Refusal) → TargetReason reason → Refuse reason ≡ Refuse why → Between 22 23 why
-      because reason t z =
-          let same : why ≡ reason = cc in
-          rw same (omega (arith, t))
-
-      in-segment : (kind : Kind) (segment offset : ℕ) → lacks (h .segments .count) segment ≡ false → Told kind (Segment segment offset)
-      in-segment kind segment offset lacked z = choose (ltb (length selectors) segment) z
-        where
-          choose : (t : Bool) → decide Refuse ((t ⇒ TargetSegment) ∷ []) (applyTo kind r offset (selectorOf selectors segment)) ≡ Refuse why → Between 22 23 why
-          choose true q = because TargetSegment refl q
-          choose false q = never cc
-
-      go : (typed : Typed) → ofType selectors answer r typed (targetOf image h r) ≡ Refuse why → Between 22 23 why
-      go Unknown z =
-          let same : why ≡ FixupType = cc in
-          rw same (omega arith)
-      go (Known kind) z = target-cases image h r (Told kind) (in-segment kind) (λ z. never cc) (λ z. never cc) because z
+-- A record is refused by 22 or 23.
+pub refused-number : {image : List ℕ} {h : Header} {r : Record} {why : Refusal} → RefusedAs image h r why → Between 22 23 why
+refused-number (type-unknown n) = omega arith
+refused-number (target-unresolved k n is) = omega arith

@@ -6,6 +6,8 @@ use Prim.Native.Nat.{ℕ, _-_, _/_, _%_}
 use mathlib.Core.List.{List, [], _∷_}
 use lib.Dec.{ltb, eqb}
 use lib.ListN.{length, getD}
+use Rattle.refusal.specs.Number.{numberOf}
+use Rattle.refusal.specs.declared.Refusal.{Refusal}
 use Rattle.refusal.specs.declared.Refusal.the-variants.{FixupType, TargetSegment}
 use Rattle.checks.specs.Checks.{_⇒_, decide}
 use Rattle.header.specs.declared.Header.{Header}
@@ -19,6 +21,7 @@ use Rattle.fixup.specs.declared.Target.{Target}
 use Rattle.fixup.specs.declared.Target.the-variants.{Segment, Import, Os, Unresolved}
 use Rattle.fixup.specs.Record.{typedOf}
 use Rattle.fixup.specs.Target.{targetOf}
+use Rattle.fixup.specs.Resolves.{Resolves}
 
 -- A fixup to an address. "Bit 2: additive."
 abbrev pub applyTo : Kind → Record → ℕ → ℕ → Action
@@ -50,6 +53,13 @@ actionOf image h selectors answer r = ofType selectors answer r (typedOf (r .kin
 -- That a record's type is known.
 abbrev pub KnownType : Record → Type 0
 KnownType r = (r .kind ≡ 0) ⊎ (r .kind ≡ 2) ⊎ (r .kind ≡ 3) ⊎ (r .kind ≡ 5)
+
+-- Why a record is refused by itself: "22, 23 (unsound or unresolved targets all give 23)".
+pub data RefusedAs (image : List ℕ) (h : Header) (r : Record) : Refusal → Type 0 where
+  -- "fixup type not 0, 2, 3, 5", whatever its target.
+  type-unknown : (KnownType r → ⊥) → RefusedAs image h r FixupType
+  -- "fixup target doesn't resolve".
+  target-unresolved : {why : Refusal} → KnownType r → (Resolves image h r → ⊥) → numberOf why ≡ 23 → RefusedAs image h r why
 
 -- That two lists of selectors and two import answers agree where a target looks at them: "Answers depend on the selectors of
 -- segments that are targeted and on the answers at import records."

@@ -1,4 +1,4 @@
 pub mod Bounds
 pub mod Numbered
 pub mod Onward
-pub mod Reasons
+pub mod Why

@@ -29,7 +29,7 @@ use Rattle.prepare.proofs.Ready.{walked, is-walked, was-ready}
 
 -- What the sites' theory calls resolved, in the records' own words, and the other way.
 module _ (q : Request) (h : Header) (s : Segment) where
-  pub from-sites : site.Sound (storedOf q s) (actionsOf q h s) → Sound q h s
+  unfoldable pub from-sites : site.Sound (storedOf q s) (actionsOf q h s) → Sound q h s
   from-sites sound =
       record {
         types = all-each KnownType (s .records) (recordIn q s) (λ i k. known i k .0);
@@ -59,14 +59,14 @@ module _ (q : Request) (h : Header) (s : Segment) where
 module _ (q : Request) (h : Header) (s : Segment) (ready : Ready q h s) where
   pub stored-length : length (storedOf q s) ≡ s .stored
   stored-length =
-      let in-image = record-accepted (q .image) h (q .number - 1) s (ready .segment) .stored in
+      let in-image = record-accepted (q .image) h (q .number - 1) s (ready .found .segment) .stored in
       omega (arith, length-take (s .stored) (drop (s .start) (q .image)), length-drop (s .start) (q .image))
 
   pub stored-fits : length (storedOf q s) ≤ s .allocation
-  stored-fits = omega (arith, stored-length, record-accepted (q .image) h (q .number - 1) s (ready .segment) .allocation)
+  stored-fits = omega (arith, stored-length, record-accepted (q .image) h (q .number - 1) s (ready .found .segment) .allocation)
 
   pub stored-small : Bytes (q .image) → length (storedOf q s) ≤ 65536
-  stored-small bytes = omega (arith, stored-fits, allocation-full (q .image) h (q .number - 1) s (ready .segment) bytes)
+  stored-small bytes = omega (arith, stored-fits, allocation-full (q .image) h (q .number - 1) s (ready .found .segment) bytes)
 
   -- What an accepted segment is made from.
   pub made : (sites : ℕ) (bytes marks : List ℕ) → walked q h s ≡ Prepared sites bytes marks → (sound : Sound q h s) × (Prepared sites bytes marks ≡ outcomeOf q s (Walked (sound .sites)))

@@ -7,5 +7,4 @@ pub mod Demands
 pub mod Related
 pub mod Independent
 pub mod AnyLists
-pub mod Over
 pub mod Examples

@@ -67,7 +67,7 @@ every-order q h s ready {count} {bytes} {marks} e records p =
     go sound is =
         let b : prepared (storedOf q s) (s .allocation) (sound .sites) ≡ bytes = cc in
         let permuted : Perm (actionsOf q h s) (map (action q h) records) = rw (← (actions-are q h s)) (Perm·map (action q h) p) in
-        steps-are q h (ready .header) records (unfixed (storedOf q s) (s .allocation))
+        steps-are q h (ready .found .numbered .header) records (unfixed (storedOf q s) (s .allocation))
         ∙ site-order.every-order (storedOf q s) (s .allocation) (stored-fits q h s ready) (actionsOf q h s) (to-sites q h s (ready .selectors) sound) (map (action q h) records) permuted
         ∙ b
 
@@ -75,7 +75,7 @@ every-order q h s ready {count} {bytes} {marks} e records p =
 pub stored-sites : (q : Request) (h : Header) (s : Segment) → Ready q h s → (sound : Sound q h s) → gathered (λ g. visitedOf (q .image) (q .selectors) g (unfixed (storedOf q s) (s .allocation))) (givenOf q s) ≡ sound .sites
 unfolding to-sites
 stored-sites q h s ready sound =
-    visits-are q h (ready .header) (unfixed (storedOf q s) (s .allocation)) (givenOf q s)
+    visits-are q h (ready .found .numbered .header) (unfixed (storedOf q s) (s .allocation)) (givenOf q s)
     ∙ rw (actions-are q h s) (site-order.stored-sites (storedOf q s) (s .allocation) (stored-fits q h s ready) (actionsOf q h s) (to-sites q h s (ready .selectors) sound))
 
 module _ (image selectors : List ℕ) (g : Given) (buffer : List ℕ) where

@@ -5,35 +5,29 @@
 -- Assumes nothing.
 use mathlib.Core.Path.{_≡_, refl}
 use mathlib.Core.Logic.{_⊎_, inl, inr}
-use mathlib.Core.Bool.{false}
 use mathlib.Core.List.{List, [], _∷_}
 use Prim.Native.Nat.{ℕ, _-_}
-use native.Mathlib.Omega.{arith}
-use borrow.Author.Tests.{ltb-false, le-ltb}
+use borrow.Author.Tests.{ltb-true, ltb-false, le-ltb}
 use Rattle.checks.specs.Checks.{_⇒_, decide, Passed}
 use Rattle.checks.proofs.Checks.{decided, tried}
 use Rattle.checks.proofs.Impossible.{never}
-use Rattle.refusal.specs.Number.{Between}
 use Rattle.refusal.specs.declared.Refusal.{Refusal}
-use Rattle.refusal.specs.declared.Refusal.the-variants.{NoSuchNumber, SelectorsShort, AnswersShort, OutputShort, MarksShort}
+use Rattle.refusal.specs.declared.Refusal.the-variants.{NoSuchNumber}
 use Rattle.header.specs.Header.{headerOf, onHeader, lacks}
 use Rattle.header.specs.declared.Header.{Header}
 use Rattle.header.specs.declared.Answer as header
 use Rattle.header.specs.declared.Answer.the-variants as headers
-use Rattle.header.proofs.Reasons as header-reasons
 use Rattle.segment.specs.Segment.{recordOf, onSegment}
 use Rattle.segment.specs.declared.Segment.{Segment}
 use Rattle.segment.specs.declared.Answer as segment
 use Rattle.segment.specs.declared.Answer.the-variants as segments
-use Rattle.segment.proofs.Reasons as segment-reasons
 use Rattle.tables.specs.Table as tables
 use Rattle.tables.specs.Table.{onTable}
 use Rattle.bundle.specs.declared.Bundle.{Bundle}
-use Rattle.entry.specs.Ordinal.{tableBytes}
 use Rattle.entry.specs.Table.{EntryTable}
-use Rattle.entry.proofs.Reasons as entry-reasons
 use Rattle.prepare.specs.Prepare.{Request, Outcome, Prepared, refuse, walkedOf, entriesOf, sizeChecks, outcomeOf, prepareOf}
-use Rattle.prepare.specs.Sound.{Ready}
+use Rattle.prepare.specs.Sound.{Numbered, Found, Ready}
+use Rattle.prepare.specs.Rejected.{Short, selectors-short, answers-short, output-short, marks-short, Early, by-header, by-number, by-entries, by-segment, by-size}
 
 -- What going over the records gives.
 abbrev pub walked : Request → Header → Segment → Outcome
@@ -44,50 +38,51 @@ abbrev pub sized : Request → Header → Segment → Outcome
 sized q h s = decide refuse (sizeChecks q h s) (walked q h s)
 
 -- A refusal from before the records, and what going over the records gave.
-abbrev pub IsEarly : Outcome → Type 0
-IsEarly o = (why : Refusal) × Between 1 21 why × (refuse why ≡ o)
+abbrev pub IsEarly : Request → Outcome → Type 0
+IsEarly q o = (why : Refusal) × Early q why × (refuse why ≡ o)
 
 abbrev pub IsWalked : Request → Outcome → Type 0
 IsWalked q o = (h : Header) × (s : Segment) × Ready q h s × (walked q h s ≡ o)
 
 module _ (q : Request) where
   abbrev Came : Outcome → Type 0
-  Came o = IsEarly o ⊎ IsWalked q o
+  Came o = IsEarly q o ⊎ IsWalked q o
 
-  early : (why : Refusal) → Between 1 21 why → Came (refuse why)
-  early why between = inl (why, between, refl)
+  early : {why : Refusal} → Early q why → Came (refuse why)
+  early {why} e = inl (why, e, refl)
 
   -- What follows of a header whose segment table has the number.
   abbrev numbered : Header → Outcome
   numbered h = onTable (entriesOf q h) refuse (λ bundles. onSegment (recordOf (q .image) h (q .number - 1)) refuse (sized q h))
 
-  module _ (h : Header) (header : headerOf (q .image) ≡ headers.Accepted h) (number : lacks (h .segments .count) (q .number) ≡ false) where
-    of-segment : (s : Segment) (bundles : List Bundle) → entriesOf q h ≡ tables.Sound bundles → recordOf (q .image) h (q .number - 1) ≡ segments.Accepted s → Came (sized q h s)
-    unfolding sizeChecks
-    of-segment s bundles entries segment = tried refuse Came (sizeChecks q h s) (walked q h s) (early SelectorsShort (omega arith), (early AnswersShort (omega arith), (early OutputShort (omega arith), (early MarksShort (omega arith), tt)))) fits
-      where
-        fits : Passed (sizeChecks q h s) → Came (walked q h s)
-        fits p =
-            inr (h, s, record { header = header; number = number; bundles = bundles; entries = entries; segment = segment; selectors = ltb-false _ _ (p .0); answers = ltb-false _ _ (p .1 .0); output = ltb-false _ _ (p .1 .1 .0); marks = ltb-false _ _ (p .1 .1 .1 .0) }, refl)
+  of-segment : (h : Header) (s : Segment) → Found q h s → Came (sized q h s)
+  unfolding sizeChecks
+  of-segment h s found = tried refuse Came (sizeChecks q h s) (walked q h s) ((λ e. short (selectors-short (ltb-true _ _ e))), (λ a. ((λ e. short (answers-short (ltb-true _ _ e))), (λ b. ((λ e. short (output-short (ltb-true _ _ e))), (λ c. ((λ e. short (marks-short (ltb-true _ _ e))), (λ d. tt)))))))) fits
+    where
+      short : {why : Refusal} → Short q h s why → Came (refuse why)
+      short t = early (by-size h s found t)
 
-    of-number : Came (numbered h)
-    of-number = go (entriesOf q h) refl
-      where
-        of-record : (bundles : List Bundle) → entriesOf q h ≡ tables.Sound bundles → (a : segment.Answer) → recordOf (q .image) h (q .number - 1) ≡ a → Came (onSegment a refuse (sized q h))
-        of-record bundles entries (segments.Accepted s) e = of-segment s bundles entries e
-        of-record bundles entries (segments.Refused why) e = early why (omega (arith, segment-reasons.refused (q .image) h (q .number - 1) why e))
+      fits : Passed (sizeChecks q h s) → Came (walked q h s)
+      fits p = inr (h, s, record { found = found; selectors = ltb-false _ _ (p .0); answers = ltb-false _ _ (p .1 .0); output = ltb-false _ _ (p .1 .1 .0); marks = ltb-false _ _ (p .1 .1 .1 .0) }, refl)
 
-        go : (t : EntryTable) → entriesOf q h ≡ t → Came (onTable t refuse (λ bundles. onSegment (recordOf (q .image) h (q .number - 1)) refuse (sized q h)))
-        go (tables.Sound bundles) e = of-record bundles e (recordOf (q .image) h (q .number - 1)) refl
-        go (tables.Unsound why) e = early why (omega (arith, entry-reasons.refused (tableBytes (q .image) h) (h .segments .count) why e))
+  of-number : (h : Header) → Numbered q h → Came (numbered h)
+  of-number h n = go (entriesOf q h) refl
+    where
+      of-record : (bundles : List Bundle) → entriesOf q h ≡ tables.Sound bundles → (a : segment.Answer) → recordOf (q .image) h (q .number - 1) ≡ a → Came (onSegment a refuse (sized q h))
+      of-record bundles sound (segments.Accepted s) e = of-segment h s (record { numbered = n; bundles = bundles; entries = sound; segment = e })
+      of-record bundles sound (segments.Refused why) e = early (by-segment h bundles n sound e)
+
+      go : (t : EntryTable) → entriesOf q h ≡ t → Came (onTable t refuse (λ bundles. onSegment (recordOf (q .image) h (q .number - 1)) refuse (sized q h)))
+      go (tables.Sound bundles) e = of-record bundles e (recordOf (q .image) h (q .number - 1)) refl
+      go (tables.Unsound why) e = early (by-entries h n e)
 
   pub came : Came (prepareOf q)
   unfolding prepareOf onHeader
   came = go (headerOf (q .image)) refl
     where
       go : (a : header.Answer) → headerOf (q .image) ≡ a → Came (prepareOf q)
-      go (headers.Accepted h) e = rw e (tried refuse Came ((lacks (h .segments .count) (q .number) ⇒ NoSuchNumber) ∷ []) (numbered h) (early NoSuchNumber (omega arith), tt) (λ p. of-number h e (p .0)))
-      go (headers.Refused why) e = rw e (early why (omega (arith, header-reasons.refused (q .image) why e)))
+      go (headers.Accepted h) e = rw e (tried refuse Came ((lacks (h .segments .count) (q .number) ⇒ NoSuchNumber) ∷ []) (numbered h) ((λ lacking. early (by-number h e lacking)), (λ has. tt)) (λ p. of-number h (record { header = e; number = p .0 })))
+      go (headers.Refused why) e = rw e (early (by-header e))
 
   pub was-ready : (sites : ℕ) (bytes marks : List ℕ) → prepareOf q ≡ Prepared sites bytes marks → IsWalked q (Prepared sites bytes marks)
   was-ready sites bytes marks e = go (rw e at came)
@@ -103,4 +98,4 @@ sizes q h s r = (le-ltb _ _ (r .selectors), (le-ltb _ _ (r .answers), (le-ltb _ 
 
 pub is-walked : (q : Request) (h : Header) (s : Segment) → Ready q h s → prepareOf q ≡ walked q h s
 unfolding prepareOf onHeader
-is-walked q h s r = rw (r .header, r .number, r .entries, r .segment) (decided refuse (sizeChecks q h s) (walked q h s) (sizes q h s r))
+is-walked q h s r = rw (r .found .numbered .header, r .found .numbered .number, r .found .entries, r .found .segment) (decided refuse (sizeChecks q h s) (walked q h s) (sizes q h s r))

@@ -19,13 +19,21 @@ use Rattle.site.specs.Site.{Site, Inside, Apart}
 use Rattle.site.specs.Sound.{Sites}
 use Rattle.prepare.specs.Prepare.{Request, Prepared, prepareOf, entriesOf, storedOf, recordsOf, actionsOf}
 
--- The image's own checks, the segment's number and the sizes are passed, and these are the header and the segment.
-pub record Ready (q : Request) (h : Header) (s : Segment) : Type 0 where
+-- The header is accepted, and its segment table has the number.
+pub record Numbered (q : Request) (h : Header) : Type 0 where
   pub header : headerOf (q .image) ≡ headers.Accepted h
   pub number : lacks (h .segments .count) (q .number) ≡ false
+
+-- The entry table is sound too, and the segment's record is accepted.
+pub record Found (q : Request) (h : Header) (s : Segment) : Type 0 where
+  pub numbered : Numbered q h
   pub bundles : List Bundle
   pub entries : entriesOf q h ≡ tables.Sound bundles
   pub segment : recordOf (q .image) h (q .number - 1) ≡ segments.Accepted s
+
+-- The image's own checks, the segment's number and the sizes are passed, and these are the header and the segment.
+pub record Ready (q : Request) (h : Header) (s : Segment) : Type 0 where
+  pub found : Found q h s
   pub selectors : h .segments .count ≤ length (q .selectors)
   pub answers : s .records ≤ length (q .answers)
   pub output : s .allocation ≤ q .output

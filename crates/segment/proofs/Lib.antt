@@ -1,3 +1,3 @@
 pub mod Words
 pub mod Bounds
-pub mod Reasons
+pub mod Why

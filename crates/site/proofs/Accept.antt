@@ -59,8 +59,8 @@ module _ (stored : List ℕ) (f : Fixup) where
 
   pub follow-accepted : (left at : ℕ) (earlier sites : List Site) → Good stored earlier → followFrom left stored f at earlier ≡ Ended sites → Came stored f at earlier sites
   unfolding followFrom
-  follow-accepted zero at earlier sites g e = site-cases stored earlier (siteOf f at) (Halted SitesOver) (λ w. w ≡ Ended sites → Came stored f at earlier sites) g (λ z. never cc) (λ z. never cc) (λ good z. never cc) e
-  follow-accepted (suc left) at earlier sites g e = site-cases stored earlier (siteOf f at) _ (λ w. w ≡ Ended sites → Came stored f at earlier sites) g (λ z. never cc) (λ z. never cc) (λ good. go good (isLast f (wordAt stored at)) refl (λ z. follow-accepted left (wordAt stored at) (earlier ++ siteOf f at ∷ []) sites good z)) e
+  follow-accepted zero at earlier sites g e = site-cases stored earlier (siteOf f at) (Halted SitesOver) (λ w. w ≡ Ended sites → Came stored f at earlier sites) g (λ why bad z. never cc) (λ good z. never cc) e
+  follow-accepted (suc left) at earlier sites g e = site-cases stored earlier (siteOf f at) _ (λ w. w ≡ Ended sites → Came stored f at earlier sites) g (λ why bad z. never cc) (λ good. go good (isLast f (wordAt stored at)) refl (λ z. follow-accepted left (wordAt stored at) (earlier ++ siteOf f at ∷ []) sites good z)) e
     where
       onward : Followed
       onward = followFrom left stored f (wordAt stored at) (earlier ++ siteOf f at ∷ [])

@@ -5,7 +5,6 @@ pub mod Step
 pub mod Order
 pub mod Meets
 pub mod Accept
-pub mod Over
 pub mod Written
 pub mod Count
 pub mod Shape

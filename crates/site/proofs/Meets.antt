@@ -1,10 +1,10 @@
 -- The checks of a site, and what they say: its span lies in the stored bytes and shares no byte with an earlier one.
 --     one-apart     a span that meets no earlier one is apart from all, and apart-one the other way
---     checks-pass   a good site passes its checks
 --     site-cases    what the checks decide, by cases
+--     checks-pass   a good site passes its checks
 -- Assumes nothing.
 use mathlib.Core.Path.{_≡_, refl}
-use mathlib.Core.Bool.{Bool, true, false, cond, _&&_, _||_}
+use mathlib.Core.Bool.{Bool, true, false, _&&_, _||_}
 use mathlib.Core.List.{List, [], _∷_, _++_}
 use Prim.Native.Nat.{ℕ, _<_, max}
 use native.Mathlib.Omega.{arith}
@@ -16,7 +16,10 @@ use Rattle.lists.specs.Lists.{All, Pairs}
 use Rattle.lists.proofs.All.{all-append, all-back, pairs-append, pairs-across, all-map}
 use Rattle.site.specs.Site.{Site, endOf, Inside, Apart}
 use Rattle.checks.specs.Checks.{decide, Passed}
+use Rattle.checks.proofs.Checks.{tried}
+use Rattle.refusal.specs.declared.Refusal.{Refusal}
 use Rattle.refusal.specs.declared.Refusal.the-variants.{SpanOutside, SpanTaken}
+use Rattle.site.specs.BadSite.{Bad, outside, taken}
 use Rattle.site.specs.Walk.{meets, meetsOne, siteChecks, Followed, Halted}
 use Rattle.site.proofs.Spans.{wide}
 
@@ -64,17 +67,18 @@ good-more stored earlier s g inside free =
     let with = all-map (λ t. Apart t s) (λ t. All (Apart t) (s ∷ [])) (λ t h. (h, tt)) earlier (one-apart s earlier free) in
     (all-append (Inside stored) earlier (s ∷ []) (g .0) (ltb-false _ _ inside, tt), pairs-append Apart earlier (s ∷ []) (g .1) (tt, tt) with)
 
+-- What holds of each refusal, and of the answer where the site is good too, holds of what the checks decide.
+pub site-cases : (stored : List ℕ) (earlier : List Site) (s : Site) (answer : Followed) (P : Followed → Type 0) → Good stored earlier → ((why : Refusal) → Bad stored earlier s why → P (Halted why)) → (Good stored (earlier ++ s ∷ []) → P answer) → P (decide Halted (siteChecks stored earlier s) answer)
+site-cases stored earlier s answer P g refused good = tried Halted P (siteChecks stored earlier s) answer (past, λ in-stored. (met (ltb-false _ _ in-stored), λ free. tt)) (λ p. good (good-more stored earlier s g (p .0) (p .1 .0)))
+  where
+    past : ltb (length stored) (endOf s) ≡ true → P (Halted SpanOutside)
+    past e = refused SpanOutside (outside (λ k. let z : false ≡ true = rw (le-ltb _ _ k) at e in never cc))
+
+    met : Inside stored s → meetsOne s earlier ≡ true → P (Halted SpanTaken)
+    met k e = refused SpanTaken (taken k (λ a. let z : false ≡ true = rw (apart-one s earlier a) at e in never cc))
+
 pub checks-pass : (stored : List ℕ) (earlier : List Site) (s : Site) (rest : List Site) → Good stored (earlier ++ s ∷ rest) → Passed (siteChecks stored earlier s)
 checks-pass stored earlier s rest g =
     let inside = all-back (Inside stored) earlier (s ∷ rest) (g .0) .0 in
     let with = all-map (λ t. All (Apart t) (s ∷ rest)) (λ t. Apart t s) (λ t h. h .0) earlier (pairs-across Apart earlier (s ∷ rest) (g .1)) in
     (le-ltb (length stored) (endOf s) inside, (apart-one s earlier with, tt))
-
--- What holds of both refusals, and of the answer where the site is good too, holds of what the checks decide.
-pub site-cases : (stored : List ℕ) (earlier : List Site) (s : Site) (answer : Followed) (P : Followed → Type 0) → Good stored earlier → P (Halted SpanOutside) → P (Halted SpanTaken) → (Good stored (earlier ++ s ∷ []) → P answer) → P (decide Halted (siteChecks stored earlier s) answer)
-site-cases stored earlier s answer P g outside taken good = go (ltb (length stored) (endOf s)) (meetsOne s earlier) refl refl
-  where
-    go : (out met : Bool) → ltb (length stored) (endOf s) ≡ out → meetsOne s earlier ≡ met → P (cond out (Halted SpanOutside) (cond met (Halted SpanTaken) answer))
-    go true met p q = outside
-    go false true p q = taken
-    go false false p q = good (good-more stored earlier s g p q)

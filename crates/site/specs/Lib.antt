@@ -3,4 +3,5 @@ pub mod Walk
 pub mod Prepared
 pub mod Step
 pub mod Sound
+pub mod BadSite
 pub mod Exact

@@ -14,7 +14,7 @@ use Rattle.tables.proofs.Induction.{unsound-table}
 use Rattle.bundle.specs.Bundle.{stepOf}
 use Rattle.bundle.specs.declared.Step as step
 use Rattle.bundle.specs.declared.Step.the-variants as steps
-use Rattle.bundle.proofs.Reasons as bundle
+use Rattle.bundle.proofs.Why as bundle
 use Rattle.entry.specs.Table.{asStep, bundleStep, tableOf}
 
 module _ (table : List ℕ) (segments : ℕ) where
@@ -24,7 +24,7 @@ module _ (table : List ℕ) (segments : ℕ) where
       go : (s : step.Step) → stepOf table segments (p .at) (p .used) ≡ s → asStep s ≡ Stop why → Between 12 14 why
       go (steps.Refused reason) q z =
           let same : reason ≡ why = cc in
-          rw same at (bundle.refused table segments (p .at) (p .used) reason q)
+          rw same at (bundle.refused reason table segments (p .at) (p .used) q)
       go steps.End q z = never cc
       go (steps.Next b) q z = never cc
 
