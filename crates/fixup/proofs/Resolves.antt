@@ -54,6 +54,9 @@ found-type r found = go (eqb (r .kind) 0) (eqb (r .kind) 2) (eqb (r .kind) 3) (e
     go false false false true a b c d = inr (inr (inr (eqb-true _ _ d)))
     go false false false false a b c d = absurd (found (rw (a, b, c, d)))
 
+same-reason : {why why′ : Refusal} → Refuse why ≡ Refuse why′ → why ≡ why′
+same-reason e = cc
+
 module _ (image : List ℕ) (h : Header) (selectors : List ℕ) (answer : ℕ) (r : Record) where
   pub refused-as : h .segments .count ≤ length selectors → (why : Refusal) → actionOf image h selectors answer r ≡ Refuse why → RefusedAs image h r why
   unfolding actionOf
@@ -75,13 +78,14 @@ module _ (image : List ℕ) (h : Header) (selectors : List ℕ) (answer : ℕ) (
 
       go : (typed : Typed) → typedOf (r .kind) ≡ typed → ofType selectors answer r typed (targetOf image h r) ≡ Refuse why → RefusedAs image h r why
       go Unknown p z =
-          let same : FixupType ≡ why = cc in
+          let told : Refuse FixupType ≡ Refuse why = z in
+          let same : FixupType ≡ why = same-reason told in
           rw (← same) (type-unknown (λ k. type-found r k p))
       go (Known kind) p z = target-cases image h r (Told kind) (in-segment kind) (λ k z. never cc) (λ k z. never cc) because (λ other k t. resolves-not image h r other (t .0) (t .1) k) z
         where
           because : (other : Refusal) → TargetReason other → Told kind (Unresolved other)
           because other reason k z =
-              let same : other ≡ why = cc in
+              let same : other ≡ why = same-reason z in
               rw (← same) (target-unresolved (known-type kind p) (k other refl) reason)
 
   pub resolved : h .segments .count ≤ length selectors → KnownType r → Resolves image h r → Resolved (actionOf image h selectors answer r)
