@@ -23,7 +23,7 @@ use Rattle.site.specs.Site.{Site}
 use Rattle.site.specs.Sound as site
 use Rattle.site.specs.Walk.{Walk, Walked, Stopped}
 use Rattle.site.proofs.Accept.{accepted-sound, sound-accepted}
-use Rattle.prepare.specs.Prepare.{Request, Prepared, storedOf, recordIn, actionIn, answerOf, actionsOf, walkedOf, outcomeOf}
+use Rattle.prepare.specs.Prepare.{Request, Prepared, storedOf, recordIn, actionIn, importAnswer, actionsOf, walkedOf, outcomeOf}
 use Rattle.prepare.specs.Sound.{Ready, Sound, Accepts}
 use Rattle.prepare.proofs.Ready.{walked, is-walked, was-ready}
 
@@ -41,7 +41,7 @@ module _ (q : Request) (h : Header) (s : Segment) where
       }
     where
       known : (i : ℕ) → i < s .records → KnownType (recordIn q s i) × Resolves (q .image) h (recordIn q s i)
-      known i k = fixup.known (q .image) h (q .selectors) (answerOf q i) (recordIn q s i) (each-all site.Resolved (s .records) (actionIn q h s) (sound .resolved) i k)
+      known i k = fixup.known (q .image) h (q .selectors) (importAnswer q i) (recordIn q s i) (each-all site.Resolved (s .records) (actionIn q h s) (sound .resolved) i k)
 
   unfoldable pub to-sites : h .segments .count ≤ length (q .selectors) → Sound q h s → site.Sound (storedOf q s) (actionsOf q h s)
   to-sites enough sound =
@@ -54,7 +54,7 @@ module _ (q : Request) (h : Header) (s : Segment) where
       }
     where
       good : (i : ℕ) → i < s .records → site.Resolved (actionIn q h s i)
-      good i k = fixup.resolved (q .image) h (q .selectors) (answerOf q i) (recordIn q s i) enough (each-all KnownType (s .records) (recordIn q s) (sound .types) i k) (each-all (Resolves (q .image) h) (s .records) (recordIn q s) (sound .targets) i k)
+      good i k = fixup.resolved (q .image) h (q .selectors) (importAnswer q i) (recordIn q s i) enough (each-all KnownType (s .records) (recordIn q s) (sound .types) i k) (each-all (Resolves (q .image) h) (s .records) (recordIn q s) (sound .targets) i k)
 
 module _ (q : Request) (h : Header) (s : Segment) (ready : Ready q h s) where
   pub stored-length : length (storedOf q s) ≡ s .stored

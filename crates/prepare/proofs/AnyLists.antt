@@ -17,7 +17,7 @@ use Rattle.segment.specs.declared.Segment.{Segment}
 use Rattle.fixup.proofs.Agree.{same-shape}
 use Rattle.site.specs.Walk.{Walk, Walked, Stopped, walkOf}
 use Rattle.site.proofs.Shape.{blankAction, blankWalk, walk-blank, marks-blank}
-use Rattle.prepare.specs.Prepare.{Request, Outcome, Prepared, Refused, refuse, storedOf, recordIn, actionIn, answerOf, actionsOf, sizeChecks, walkedOf, outcomeOf, prepareOf}
+use Rattle.prepare.specs.Prepare.{Request, Outcome, Prepared, Refused, refuse, storedOf, recordIn, actionIn, importAnswer, actionsOf, sizeChecks, walkedOf, outcomeOf, prepareOf}
 use Rattle.prepare.specs.Sound.{Accepts}
 use Rattle.prepare.specs.Alike.{withLists, butBytes}
 use Rattle.prepare.proofs.Ready.{walked, sized}
@@ -35,7 +35,7 @@ module _ (q : Request) (selectors answers : List ℕ) (as-many-selectors : lengt
   same-actions : (h : Header) (s : Segment) → map blankAction (actionsOf q h s) ≡ map blankAction (actionsOf other h s)
   same-actions h s =
       each-mapped (s .records) (actionIn q h s) blankAction
-      ∙ each-same (s .records) (λ i. blankAction (actionIn q h s i)) (λ i. blankAction (actionIn (withLists q selectors answers) h s i)) (λ i k. same-shape (q .selectors) selectors (answerOf q i) (getD answers i 0) (recordIn q s i) as-many-selectors (q .image) h)
+      ∙ each-same (s .records) (λ i. blankAction (actionIn q h s i)) (λ i. blankAction (actionIn (withLists q selectors answers) h s i)) (λ i k. same-shape (q .selectors) selectors (importAnswer q i) (getD answers i 0) (recordIn q s i) as-many-selectors (q .image) h)
       ∙ sym (each-mapped (s .records) (actionIn (withLists q selectors answers) h s) blankAction)
 
   same-walk : (h : Header) (s : Segment) → blankWalk (walkedOf q h s) ≡ blankWalk (walkedOf other h s)

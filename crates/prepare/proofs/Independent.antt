@@ -13,7 +13,7 @@ use Rattle.segment.specs.declared.Segment.{Segment}
 use Rattle.segment.specs.declared.Answer.the-variants as segments
 use Rattle.fixup.proofs.Agree.{agree}
 use Rattle.site.specs.Walk.{Walk, Walked, Stopped}
-use Rattle.prepare.specs.Prepare.{Request, recordIn, actionIn, answerOf, actionsOf, sizeChecks, walkedOf, outcomeOf, prepareOf}
+use Rattle.prepare.specs.Prepare.{Request, recordIn, actionIn, importAnswer, actionsOf, sizeChecks, walkedOf, outcomeOf, prepareOf}
 use Rattle.prepare.specs.Alike.{withLists, Alike}
 use Rattle.prepare.proofs.Ready.{sized}
 use Rattle.prepare.proofs.Related.{related}
@@ -27,7 +27,7 @@ module _ (q : Request) (selectors answers : List ℕ) (alike : Alike q selectors
   same-segment : (h : Header) (s : Segment) → headerOf (q .image) ≡ headers.Accepted h → recordOf (q .image) h (q .number - 1) ≡ segments.Accepted s → sized q h s ≡ sized (withLists q selectors answers) h s
   unfolding sizeChecks
   same-segment h s header record′ =
-      let actions : actionsOf q h s ≡ actionsOf (withLists q selectors answers) h s = each-same (s .records) (actionIn q h s) (actionIn (withLists q selectors answers) h s) (λ i k. agree (q .selectors) selectors (answerOf q i) (getD answers i 0) (recordIn q s i) (alike .as-many-selectors) (q .image) h (alike .agree h s header record′ i k)) in
+      let actions : actionsOf q h s ≡ actionsOf (withLists q selectors answers) h s = each-same (s .records) (actionIn q h s) (actionIn (withLists q selectors answers) h s) (λ i k. agree (q .selectors) selectors (importAnswer q i) (getD answers i 0) (recordIn q s i) (alike .as-many-selectors) (q .image) h (alike .agree h s header record′ i k)) in
       rw (alike .as-many-selectors, alike .as-many-answers, actions, same-outcome s (walkedOf (withLists q selectors answers) h s))
 
   pub independent : prepareOf q ≡ prepareOf (withLists q selectors answers)

@@ -25,7 +25,7 @@ use Rattle.site.specs.Step as site
 use Rattle.site.specs.declared.Action.{Action}
 use Rattle.site.proofs.Order as site-order
 use Rattle.site.proofs.Step as site-step
-use Rattle.prepare.specs.Prepare.{Request, Prepared, storedOf, listOf, actionIn, answerOf, actionsOf, outcomeOf, prepareOf}
+use Rattle.prepare.specs.Prepare.{Request, Prepared, storedOf, listOf, actionIn, importAnswer, actionsOf, outcomeOf, prepareOf}
 use Rattle.prepare.specs.Sound.{Ready, Sound}
 use Rattle.prepare.specs.Step.{Given, stepOf, visitedOf, givenIn, givenOf, stepsOf, EveryOrder}
 use Rattle.prepare.proofs.Ready.{is-walked}
@@ -53,7 +53,7 @@ module _ (q : Request) (h : Header) where
   visits-are good buffer (g ∷ records) = rw (visit-is good g buffer, visits-are good buffer records)
 
   actions-are : (s : Segment) → map action (givenOf q s) ≡ actionsOf q h s
-  actions-are s = each-mapped (s .records) (givenIn q s) action ∙ each-same (s .records) (λ i. actionOf (q .image) h (q .selectors) (answerOf q i) (recordAt (bytesAt (listOf q s) i) 0)) (actionIn q h s) (λ i k. rw (own-bytes (listOf q s) i))
+  actions-are s = each-mapped (s .records) (givenIn q s) action ∙ each-same (s .records) (λ i. actionOf (q .image) h (q .selectors) (importAnswer q i) (recordAt (bytesAt (listOf q s) i) 0)) (actionIn q h s) (λ i k. rw (own-bytes (listOf q s) i))
 
 -- Start from the stored bytes and zeros up to the allocation, carry out all records, each once, each with its own answer, each
 -- on the buffer that the last one left: in every order of the whole list the buffer at the end is the output of preparing.

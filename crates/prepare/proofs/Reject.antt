@@ -30,7 +30,7 @@ use Rattle.site.specs.declared.Action.the-variants.{Apply}
 use Rattle.site.proofs.Accept.{accepted-sound, sound-accepted}
 use Rattle.site.proofs.Stop as stop
 use Rattle.site.proofs.Stop.{StopsAt, stops}
-use Rattle.prepare.specs.Prepare.{Request, Refused, storedOf, recordIn, actionIn, answerOf, walkedOf, outcomeOf, prepareOf}
+use Rattle.prepare.specs.Prepare.{Request, Refused, storedOf, recordIn, actionIn, importAnswer, walkedOf, outcomeOf, prepareOf}
 use Rattle.prepare.specs.Sound.{Ready, Sound}
 use Rattle.prepare.specs.Rejected.{Short, selectors-short, answers-short, output-short, marks-short, Early, by-header, by-number, by-entries, by-segment, by-size, firstRecords, BadRecord, Beside, nothing, its-number, Rejected}
 use Rattle.prepare.proofs.Ready.{IsEarly, IsWalked, came}
@@ -80,7 +80,7 @@ module _ (q : Request) (bytes : Bytes (q .image)) (h : Header) (s : Segment) (re
     because sites e = go (rw e at (st .because))
       where
         go : stop.Because (storedOf q s) sites (actionIn q h s (st .index)) why → RefusedAs (q .image) h (recordIn q s (st .index)) why ⊎ ((f : Fixup) × (actionIn q h s (st .index) ≡ Apply f) × BadSite (storedOf q s) sites f why)
-        go (inl r) = inl (refused-as (q .image) h (q .selectors) (answerOf q (st .index)) (recordIn q s (st .index)) (ready .selectors) why r)
+        go (inl r) = inl (refused-as (q .image) h (q .selectors) (importAnswer q (st .index)) (recordIn q s (st .index)) (ready .selectors) why r)
         go (inr w) = inr w
 
     pub bad-record : BadRecord q h s (st .index) why

@@ -11,7 +11,7 @@ use Rattle.segment.specs.declared.Segment.{Segment}
 use Rattle.segment.specs.declared.Answer.the-variants as segments
 use Rattle.fixup.specs.Target.{targetOf}
 use Rattle.fixup.specs.Action.{AgreeAt}
-use Rattle.prepare.specs.Prepare.{Request, Outcome, Prepared, Refused, recordIn, answerOf}
+use Rattle.prepare.specs.Prepare.{Request, Outcome, Prepared, Refused, recordIn, importAnswer}
 
 -- The same call with other lists.
 abbrev pub withLists : Request → List ℕ → List ℕ → Request
@@ -23,7 +23,7 @@ withLists q selectors answers =
 pub record Alike (q : Request) (selectors answers : List ℕ) : Type 0 where
   pub as-many-selectors : length (q .selectors) ≡ length selectors
   pub as-many-answers : length (q .answers) ≡ length answers
-  pub agree : (h : Header) (s : Segment) → headerOf (q .image) ≡ headers.Accepted h → recordOf (q .image) h (q .number - 1) ≡ segments.Accepted s → (i : ℕ) → i < s .records → AgreeAt (q .selectors) selectors (answerOf q i) (getD answers i 0) (targetOf (q .image) h (recordIn q s i))
+  pub agree : (h : Header) (s : Segment) → headerOf (q .image) ≡ headers.Accepted h → recordOf (q .image) h (q .number - 1) ≡ segments.Accepted s → (i : ℕ) → i < s .records → AgreeAt (q .selectors) selectors (importAnswer q i) (getD answers i 0) (targetOf (q .image) h (recordIn q s i))
 
 -- An outcome but for the segment's bytes: the refusal with its record, or the site count and the marks.
 abbrev pub butBytes : Outcome → Outcome

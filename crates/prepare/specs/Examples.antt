@@ -8,7 +8,7 @@ use Rattle.lists.specs.Lists.{gathered}
 use Rattle.bundle.specs.Values as ordinals
 use Rattle.entry.specs.Ordinal.{ordinalOf}
 use Rattle.entry.specs.Examples.{words, imageOf, p10}
-use Rattle.prepare.specs.Prepare.{Request, prepareOf, valuesOf, outputAfter}
+use Rattle.prepare.specs.Prepare.{Request, prepareOf, answerOf, valuesOf, outputAfter}
 
 -- A request to prepare the one segment of a module. Its selector is 2000h.
 abbrev pub request : List ℕ → ℕ → ℕ → Request
@@ -53,7 +53,7 @@ pub data Example : Type 0 where
   each-ordinal : List ℕ → List ℕ → Example
 
 abbrev pub Holds : Example → Type 0
-Holds (prepare q answer) = valuesOf (prepareOf q) ++ outputAfter (prepareOf q) [] ≡ answer
+Holds (prepare q answer) = valuesOf (answerOf (prepareOf q)) ++ outputAfter (prepareOf q) [] ≡ answer
 Holds (ordinal image number answer) = ordinals.valuesOf (ordinalOf image number) ≡ answer
 Holds (each-ordinal image answer) = (number : ℕ) → ordinals.valuesOf (ordinalOf image number) ≡ answer
 

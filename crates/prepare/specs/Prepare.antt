@@ -22,6 +22,8 @@ use Rattle.fixup.specs.declared.Record.{Record}
 use Rattle.site.specs.Walk.{Walk, Walked, Stopped, walkOf}
 use Rattle.site.specs.Prepared.{prepared, marked}
 use Rattle.site.specs.declared.Action.{Action}
+use Rattle.prepare.specs.declared.Answer.{Answer}
+use Rattle.prepare.specs.declared.Answer.the-variants as answers
 
 -- What preparing is given: the image, the segment's number, the selectors, the import answers, and how long the output and
 -- the marks are.
@@ -50,11 +52,11 @@ listOf q s = drop (s .list) (q .image)
 abbrev pub recordIn : Request → Segment → ℕ → Record
 recordIn q s i = recordAt (listOf q s) i
 
-abbrev pub answerOf : Request → ℕ → ℕ
-answerOf q i = getD (q .answers) i 0
+abbrev pub importAnswer : Request → ℕ → ℕ
+importAnswer q i = getD (q .answers) i 0
 
 abbrev pub actionIn : Request → Header → Segment → ℕ → Action
-actionIn q h s i = actionOf (q .image) h (q .selectors) (answerOf q i) (recordIn q s i)
+actionIn q h s i = actionOf (q .image) h (q .selectors) (importAnswer q i) (recordIn q s i)
 
 -- All records in file order.
 abbrev pub recordsOf : Request → Segment → List Record
@@ -90,20 +92,29 @@ walkedOf q h s = walkOf (storedOf q s) (actionsOf q h s)
 abbrev pub entriesOf : Request → Header → EntryTable
 entriesOf q h = tableOf (tableBytes (q .image) h) (h .segments .count)
 
--- The refusals 1 to 7, 8, 12 to 14, 10, 11, 9 and 21 in this order, then those of the records, or the prepared segment.
-unfoldable pub prepareOf : Request → Outcome
-prepareOf q =
+-- The refusals 1 to 7, 8, 12 to 14, 10, 11, 9 and 21 in this order, or what follows of the header and the segment.
+abbrev pub onReady : {A : Type 0} → Request → (Refusal → A) → (Header → Segment → A) → A
+onReady q refuse go =
     onHeader (headerOf (q .image)) refuse λ h.
     decide refuse ((lacks (h .segments .count) (q .number) ⇒ NoSuchNumber) ∷ [])
     (onTable (entriesOf q h) refuse λ bundles.
     onSegment (recordOf (q .image) h (q .number - 1)) refuse λ s.
-    decide refuse (sizeChecks q h s) (outcomeOf q s (walkedOf q h s)))
+    decide refuse (sizeChecks q h s) (go h s))
 
--- The numbers of an outcome: the refusal, 0 for none, the record and the site count. "All values in a refusal are 0; 22 to
+-- Then those of the records, or the prepared segment.
+unfoldable pub prepareOf : Request → Outcome
+prepareOf q = onReady q refuse λ h s. outcomeOf q s (walkedOf q h s)
+
+-- The answer of an outcome: the site count, or the refusal with its record.
+abbrev pub answerOf : Outcome → Answer
+answerOf (Prepared sites bytes marks) = answers.Accepted sites
+answerOf (Refused why number) = answers.Refused why number
+
+-- The numbers of an answer: the refusal, 0 for none, the record and the site count. "All values in a refusal are 0; 22 to
 -- 26 [...] also give its number".
-abbrev pub valuesOf : Outcome → List ℕ
-valuesOf (Prepared sites bytes marks) = 0 ∷ 0 ∷ sites ∷ []
-valuesOf (Refused why number) = numberOf why ∷ number ∷ 0 ∷ []
+abbrev pub valuesOf : Answer → List ℕ
+valuesOf (answers.Accepted sites) = 0 ∷ 0 ∷ sites ∷ []
+valuesOf (answers.Refused why number) = numberOf why ∷ number ∷ 0 ∷ []
 
 -- The output, as it was before and as it is left. "Output stays unchanged"; "output past the allocation is unchanged".
 abbrev pub outputAfter : Outcome → List ℕ → List ℕ

@@ -11,7 +11,7 @@ use Rattle.fixup.specs.Action.{actionOf}
 use Rattle.site.specs.Site.{Site}
 use Rattle.site.specs.Step as site
 use Rattle.site.specs.Prepared.{unfixed}
-use Rattle.prepare.specs.Prepare.{Request, storedOf, listOf, answerOf}
+use Rattle.prepare.specs.Prepare.{Request, storedOf, listOf, importAnswer}
 
 -- A record as a step is given it: its 8 bytes, and its own import answer.
 pub record Given : Type 0 where
@@ -32,7 +32,7 @@ visitedOf image selectors g buffer =
 
 -- All records of a segment, each with its own answer, in file order.
 abbrev pub givenIn : Request → Segment → ℕ → Given
-givenIn q s i = record { bytes = bytesAt (listOf q s) i; answer = answerOf q i }
+givenIn q s i = record { bytes = bytesAt (listOf q s) i; answer = importAnswer q i }
 
 abbrev pub givenOf : Request → Segment → List Given
 givenOf q s = each (s .records) (givenIn q s)

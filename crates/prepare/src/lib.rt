@@ -1,1 +1,9 @@
-// Preparing a segment. So far its theory only: what it means stands in `specs/`, and the demands on it in `proofs/`.
+// Preparing a segment: what it answers. What it means stands in `specs/`, and why it meets the demands on it in `proofs/`; `loader`
+// has its code.
+use refusal::Refusal;
+
+// The site count, or the refusal with the number of its record, counted from 1; 0 where it is not at a record.
+pub enum Answer {
+    Accepted(u32),
+    Refused(Refusal, u32),
+}

@@ -1,5 +1,6 @@
 -- The checks of a site, and what they say: its span lies in the stored bytes and shares no byte with an earlier one.
 --     one-apart     a span that meets no earlier one is apart from all, and apart-one the other way
+--     good-more     a site that passes its checks is good behind the earlier ones
 --     site-cases    what the checks decide, by cases
 --     checks-pass   a good site passes its checks
 -- Assumes nothing.
@@ -62,7 +63,7 @@ apart-one s (t ∷ ts) a = rw (apart-meets s t (a .0), apart-one s ts (a .1))
 abbrev pub Good : List ℕ → List Site → Type 0
 Good stored sites = All (Inside stored) sites × Pairs Apart sites
 
-good-more : (stored : List ℕ) (earlier : List Site) (s : Site) → Good stored earlier → ltb (length stored) (endOf s) ≡ false → meetsOne s earlier ≡ false → Good stored (earlier ++ s ∷ [])
+pub good-more : (stored : List ℕ) (earlier : List Site) (s : Site) → Good stored earlier → ltb (length stored) (endOf s) ≡ false → meetsOne s earlier ≡ false → Good stored (earlier ++ s ∷ [])
 good-more stored earlier s g inside free =
     let with = all-map (λ t. Apart t s) (λ t. All (Apart t) (s ∷ [])) (λ t h. (h, tt)) earlier (one-apart s earlier free) in
     (all-append (Inside stored) earlier (s ∷ []) (g .0) (ltb-false _ _ inside, tt), pairs-append Apart earlier (s ∷ []) (g .1) (tt, tt) with)

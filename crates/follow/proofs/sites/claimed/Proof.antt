@@ -1,0 +1,80 @@
+-- `follow::sites::claimed` meets its contract: each way is a case of the definition.
+-- Assumes nothing.
+use mathlib.Core.Path.{_≡_, _∙_, refl, sym}
+use mathlib.Core.Bool.{true, false}
+use Prim.Native.Nat.{_<_}
+use native.Mathlib.Omega.{arith}
+use borrow.Author.Tests.{eq-eqb, ne-eqb}
+use denote.Ref.{now}
+use Rattle.le.specs.Number.{wordAt}
+use Rattle.site.specs.Walk.{isLast}
+use Rattle.patch.proofs.Written.{put-is}
+use Rattle.follow.proofs.Pass.{over, ends, goes}
+use borrow.Author.Needs.{needs}
+use Rattle.follow.proofs.sites.claimed.Statement.{statement}
+use Rattle.follow.proofs.sites.claimed.Tie as tie
+
+returns : tie.Need-returns
+returns c =
+    let a = c .before .before .before .args in
+    ((λ marks. over (now (a .stored)) (a .f) (a .at) (a .done) marks (now (a .bytes)) (c .if1 .taken)), tt)
+
+word-requires : tie.Need-word-requires
+word-requires c κs = search needs
+
+byte-requires : tie.Need-byte-requires
+byte-requires c κs = search needs
+
+put-requires : tie.Need-put-requires
+put-requires c κs = search needs
+
+same-length : tie.Need-same-length
+same-length c = search needs
+
+returns-2 : tie.Need-returns-2
+returns-2 c =
+    let a = c .before .before .before .before .before .before .before .before .before .before .args in
+    let word = c .before .before .before .before .before .before .word .ensures in
+    let wrote = put-is (now (a .stored)) (a .f) (a .at) (now (a .bytes)) _ _ _ (c .before .before .before .before .before .byte .ensures) word (c .before .before .before .put .ensures) in
+    let room : a .done < 65536 = omega arith in
+    let last : isLast (a .f) (wordAt (now (a .stored)) (a .at)) ≡ true = rw (c .if2 .taken) in
+    ((λ marks. rw (wrote) (ends (now (a .stored)) (a .f) (a .at) (a .done) marks (now (a .bytes)) room last)), room)
+
+same-length-2 : tie.Need-same-length-2
+same-length-2 c = search needs
+
+returns-3 : tie.Need-returns-3
+returns-3 c =
+    let a = c .before .before .before .before .before .before .before .before .before .before .before .args in
+    let word = c .before .before .before .before .before .before .before .word .ensures in
+    let wrote = put-is (now (a .stored)) (a .f) (a .at) (now (a .bytes)) _ _ _ (c .before .before .before .before .before .before .byte .ensures) word (c .before .before .before .before .put .ensures) in
+    let room : a .done < 65536 = omega arith in
+    let last : isLast (a .f) (wordAt (now (a .stored)) (a .at)) ≡ true = rw (c .before .if2 .left, sym word, eq-eqb _ _ (c .if3 .taken)) in
+    ((λ marks. rw (wrote) (ends (now (a .stored)) (a .f) (a .at) (a .done) marks (now (a .bytes)) room last)), room)
+
+same-length-3 : tie.Need-same-length-3
+same-length-3 c = search needs
+
+returns-4 : tie.Need-returns-4
+returns-4 c =
+    let a = c .before .before .before .before .before .before .before .before .before .before .before .args in
+    let word = c .before .before .before .before .before .before .before .word .ensures in
+    let wrote = put-is (now (a .stored)) (a .f) (a .at) (now (a .bytes)) _ _ _ (c .before .before .before .before .before .before .byte .ensures) word (c .before .before .before .before .put .ensures) in
+    let room : a .done < 65536 = omega arith in
+    let last : isLast (a .f) (wordAt (now (a .stored)) (a .at)) ≡ false = rw (c .before .if2 .left, sym word, ne-eqb _ _ (c .if3 .left)) in
+    ((λ marks. rw (wrote, word) (goes (now (a .stored)) (a .f) (a .at) (a .done) marks (now (a .bytes)) room last)), room)
+
+pub claimed-spec : {M : Type 1} → statement M
+claimed-spec =
+    tie.close
+    (tie.spec
+    returns
+    word-requires
+    byte-requires
+    put-requires
+    same-length
+    returns-2
+    same-length-2
+    returns-3
+    same-length-3
+    returns-4)
