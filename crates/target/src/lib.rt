@@ -42,7 +42,7 @@ fn typed(kind: u8) -> Typed
     }
 }
 
-// What a record of a known type asks for. No target is in a segment 0.
+// What a record of a known type asks for. Segments count from 1, so no target is in a segment 0.
 fn to_target(selectors: &[u16], answer: u32, r: Record, kind: Kind, target: Target) -> Action
     requires { ⌜ ((offset : ℕ) → target ≡ Target.Segment 0 offset → ⊥) ⌝ }
     ensures { λ a. ⌜ a ≡ toTarget (now (selectors .entry)) answer r kind target ⌝ }

@@ -4,6 +4,8 @@ use mathlib.Core.Path.{_≡_, _∙_}
 use Prim.Native.Nat.{_+_, _*_, _-_}
 use native.Mathlib.Omega.{arith}
 use denote.Ref.{now}
+use lib.ListN.{take, drop}
+use Rattle.fixup.specs.Record.{recordAt}
 use Rattle.fixup.proofs.Fields.{own-bytes, from-own}
 use borrow.Author.Needs.{needs}
 use Rattle.target.proofs.read.record.Statement.{statement}
@@ -30,8 +32,10 @@ fields-requires c κs = search needs
 returns : tie.Need-returns
 returns c =
     let a = c .before .before .before .before .args in
-    let eight : 8 * a .index + 8 - 8 * a .index ≡ 8 = omega arith in
-    rw eight at (c .fields .ensures) ∙ own-bytes (now (a .part)) (a .index)
+    let at = 8 * a .index in
+    let eight : at + 8 - at ≡ 8 = omega arith in
+    let own : recordAt (take (at + 8 - at) (drop at (now (a .part)))) 0 ≡ recordAt (now (a .part)) (a .index) = rw eight (own-bytes (now (a .part)) (a .index)) in
+    c .fields .ensures ∙ own
 
 from-requires : tie.Need-from-requires
 from-requires c κs = search needs
@@ -42,7 +46,8 @@ fields-requires-2 c κs = search needs
 returns-2 : tie.Need-returns-2
 returns-2 c =
     let a = c .before .before .before .before .args in
-    c .fields2 .ensures ∙ rw (c .before .from .ensures) (from-own (now (a .part)) (a .index))
+    let own : recordAt (now (c .before .from .result)) 0 ≡ recordAt (now (a .part)) (a .index) = rw (c .before .from .ensures) (from-own (now (a .part)) (a .index)) in
+    c .fields2 .ensures ∙ own
 
 pub record-spec : {M : Type 1} → statement M
 record-spec =

@@ -28,10 +28,14 @@ returns-2 : tie.Need-returns-2
 unfolding targetOf
 returns-2 c = rw (c .if2 .taken)
 
--- Behind the first two tests there is an import.
-import-left : (image : List ℕ) (h : Header) (r : Record) → (r .flags % 4 ≡ 0 → ⊥) → (r .flags % 4 ≡ 3 → ⊥) → targetOf image h r ≡ importTarget h r (cond (eqb (r .flags % 4) 1) Import (nameTarget (stringAt image h (r .last))))
+-- What the definition says of an import.
+abbrev IsImport : List ℕ → Header → Record → Type 0
+IsImport image h r = targetOf image h r ≡ importTarget h r (cond (eqb (r .flags % 4) 1) Import (nameTarget (stringAt image h (r .last))))
+
+-- It is one where the first two tests fail.
+is-import : (image : List ℕ) (h : Header) (r : Record) → (r .flags % 4 ≡ 0 → ⊥) → (r .flags % 4 ≡ 3 → ⊥) → IsImport image h r
 unfolding targetOf
-import-left image h r internal os = go (eqb (r .flags % 4) 1) refl
+is-import image h r internal os = go (eqb (r .flags % 4) 1) refl
   where
     go : (ordinal : Bool) → eqb (r .flags % 4) 1 ≡ ordinal → targetOf image h r ≡ importTarget h r (cond ordinal Import (nameTarget (stringAt image h (r .last))))
     go true e = rw (ne-eqb _ 0 internal, e)
@@ -40,10 +44,10 @@ import-left image h r internal os = go (eqb (r .flags % 4) 1) refl
         let name : r .flags % 4 ≡ 2 = omega arith in
         rw name
 
-imported : (c : tie.Else2) → targetOf (now (c .before .before .before .before .args .image)) (c .before .before .before .before .args .h) (c .before .before .before .before .args .r) ≡ importTarget (c .before .before .before .before .args .h) (c .before .before .before .before .args .r) (cond (eqb (c .before .before .before .before .args .r .flags % 4) 1) Import (nameTarget (stringAt (now (c .before .before .before .before .args .image)) (c .before .before .before .before .args .h) (c .before .before .before .before .args .r .last))))
+imported : (c : tie.Else2) → let a = c .before .before .before .before .args in IsImport (now (a .image)) (a .h) (a .r)
 imported c =
     let a = c .before .before .before .before .args in
-    import-left (now (a .image)) (a .h) (a .r) (c .before .if1 .left) (c .if2 .left)
+    is-import (now (a .image)) (a .h) (a .r) (c .before .if1 .left) (c .if2 .left)
 
 cast-lacks : tie.Need-cast-lacks
 cast-lacks c = search needs
