@@ -35,7 +35,7 @@ returns c =
     let at = 8 * a .index in
     let eight : at + 8 - at ≡ 8 = omega arith in
     let own : recordAt (take (at + 8 - at) (drop at (now (a .part)))) 0 ≡ recordAt (now (a .part)) (a .index) = rw eight (own-bytes (now (a .part)) (a .index)) in
-    c .fields .ensures ∙ own
+    rw (c .fields .ensures) own
 
 from-requires : tie.Need-from-requires
 from-requires c κs = search needs

@@ -1,6 +1,7 @@
 -- `target::resolve::internal` meets its contract: the tests of the segment byte decide the definition's.
 -- Assumes nothing.
-use mathlib.Core.Path.{sym, _∙_}
+use mathlib.Core.Path.{_≡_, sym, _∙_}
+use Prim.Native.Nat.{_%_}
 use borrow.Author.Tests.{eq-eqb, ne-eqb}
 use Rattle.fixup.specs.Target.{internalTarget}
 use borrow.Author.Needs.{needs}
@@ -15,7 +16,9 @@ of-entry-requires c κs = search needs
 
 returns : tie.Need-returns
 unfolding internalTarget
-returns c = rw (eq-eqb _ 255 (c .before .if1 .taken)) (c .of-entry .ensures)
+returns c =
+    let ordinal : c .before .before .before .before .args .r .first % 256 ≡ 255 = c .before .if1 .taken in
+    rw (eq-eqb _ 255 ordinal) (c .of-entry .ensures)
 
 cast-lacks : tie.Need-cast-lacks
 cast-lacks c = search needs

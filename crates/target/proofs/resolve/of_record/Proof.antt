@@ -8,6 +8,7 @@ use native.Mathlib.Omega.{arith}
 use borrow.Author.Tests.{eq-eqb, ne-eqb, eqb-false}
 use denote.Ref.{now}
 use lib.Dec.{eqb}
+use Rattle.header.specs.Header.{lacks}
 use Rattle.header.specs.declared.Header.{Header}
 use Rattle.imports.specs.Module.{stringAt}
 use Rattle.fixup.specs.declared.Record.{Record}
@@ -57,14 +58,15 @@ lacks-requires c κs = search needs
 
 returns-3 : tie.Need-returns-3
 returns-3 c =
-    let lacks = sym (c .before .lacks .ensures) ∙ c .if3 .taken in
-    sym (imported (c .before .before .before) ∙ rw lacks)
+    let a = c .before .before .before .before .before .before .before .args in
+    let none : lacks (a .h .modules .count) (a .r .first) ≡ true = sym (c .before .lacks .ensures) ∙ c .if3 .taken in
+    sym (imported (c .before .before .before) ∙ rw none)
 
 returns-4 : tie.Need-returns-4
 returns-4 c =
     let found = c .before .before in
-    let has = sym (found .lacks .ensures) ∙ c .before .if3 .left in
-    sym (imported (found .before .before) ∙ rw (has, eq-eqb _ 1 (c .if4 .taken)))
+    let there = sym (found .lacks .ensures) ∙ c .before .if3 .left in
+    sym (imported (found .before .before) ∙ rw (there, eq-eqb _ 1 (c .if4 .taken)))
 
 by-name-requires : tie.Need-by-name-requires
 by-name-requires c κs = search needs
@@ -72,8 +74,8 @@ by-name-requires c κs = search needs
 returns-5 : tie.Need-returns-5
 returns-5 c =
     let found = c .before .before .before in
-    let has = sym (found .lacks .ensures) ∙ c .before .before .if3 .left in
-    sym (imported (found .before .before) ∙ rw (has, ne-eqb _ 1 (c .before .if4 .left)) (sym (c .by-name .ensures)))
+    let there = sym (found .lacks .ensures) ∙ c .before .before .if3 .left in
+    sym (imported (found .before .before) ∙ rw (there, ne-eqb _ 1 (c .before .if4 .left)) (sym (c .by-name .ensures)))
 
 pub of-record-spec : {M : Type 1} → statement M
 of-record-spec =
