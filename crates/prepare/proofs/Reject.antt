@@ -30,10 +30,10 @@ use Rattle.site.specs.declared.Action.the-variants.{Apply}
 use Rattle.site.proofs.Accept.{accepted-sound, sound-accepted}
 use Rattle.site.proofs.Stop as stop
 use Rattle.site.proofs.Stop.{StopsAt, stops}
-use Rattle.prepare.specs.Prepare.{Request, Refused, storedOf, recordIn, actionIn, importAnswer, walkedOf, outcomeOf, prepareOf}
+use Rattle.prepare.specs.Prepare.{Request, Refused, storedOf, recordIn, actionIn, importAnswer, walkedOf, outcomeOf, prepareOf, refuse}
 use Rattle.prepare.specs.Sound.{Ready, Sound}
 use Rattle.prepare.specs.Rejected.{Short, selectors-short, answers-short, output-short, marks-short, Early, by-header, by-number, by-entries, by-segment, by-size, firstRecords, BadRecord, Beside, nothing, its-number, Rejected}
-use Rattle.prepare.proofs.Ready.{IsEarly, IsWalked, came}
+use Rattle.prepare.proofs.Ready.{walked, IsEarly, IsWalked, came}
 use Rattle.prepare.proofs.Accept.{stored-small, from-sites, to-sites}
 
 -- The numbers of the refusals before the records, and at them.
@@ -90,7 +90,8 @@ same-parts : {why why′ : Refusal} {n n′ : ℕ} → Refused why n ≡ Refused
 same-parts e = (cc, cc)
 
 pub rejected : (q : Request) → Bytes (q .image) → (why : Refusal) (number : ℕ) → prepareOf q ≡ Refused why number → Rejected q why number
-rejected q bytes why number e = record { beside = beside (rw e at (came q)); output = λ before. rw e; marks = λ before. rw e }
+unfolding prepareOf
+rejected q bytes why number e = record { beside = beside (rw e at (came q refuse (walked q))); output = λ before. rw e; marks = λ before. rw e }
   where
     stopped : (h : Header) (s : Segment) → Ready q h s → (w : Walk) → walkedOf q h s ≡ w → outcomeOf q s w ≡ Refused why number → Beside q why number
     stopped h s ready (Walked sites) p z = never cc
@@ -101,7 +102,7 @@ rejected q bytes why number e = record { beside = beside (rw e at (came q)); out
         let from-one : number ≡ suc (st .index) = omega (arith, st .numbered) in
         rw from-one (its-number h s (omega (arith, record-number q h s (st .index) why bad)) ready bad)
 
-    beside : IsEarly q (Refused why number) ⊎ IsWalked q (Refused why number) → Beside q why number
+    beside : IsEarly q refuse (walked q) (Refused why number) ⊎ IsWalked q (Refused why number) → Beside q why number
     beside (inl r) =
         let part : (r .0 ≡ why) × (0 ≡ number) = same-parts (r .2) in
         let early = rw (part .0) at (r .1) in

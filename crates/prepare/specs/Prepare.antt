@@ -35,6 +35,10 @@ pub record Request : Type 0 where
   pub output : ℕ
   pub marks : ℕ
 
+abbrev pub requestOf : List ℕ → ℕ → List ℕ → List ℕ → ℕ → ℕ → Request
+requestOf image number selectors answers output marks =
+    record { image = image; number = number; selectors = selectors; answers = answers; output = output; marks = marks }
+
 -- What it gives: the site count, the segment's bytes and the marks; or a refusal, with the number of its record or 0.
 pub data Outcome : Type 0 where
   Prepared : ℕ → List ℕ → List ℕ → Outcome
