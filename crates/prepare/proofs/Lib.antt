@@ -4,6 +4,7 @@ pub mod Order
 pub mod Deliver
 pub mod Reject
 pub mod Demands
+pub mod Kept
 pub mod Related
 pub mod Independent
 pub mod AnyLists

@@ -4,5 +4,6 @@ pub mod Sound
 pub mod Delivered
 pub mod Rejected
 pub mod Demands
+pub mod Promise
 pub mod Alike
 pub mod Examples

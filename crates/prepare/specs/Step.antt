@@ -18,6 +18,9 @@ pub record Given : Type 0 where
   pub bytes : List ℕ
   pub answer : ℕ
 
+abbrev pub oneOf : List ℕ → ℕ → Given
+oneOf bytes answer = record { bytes = bytes; answer = answer }
+
 -- "An OS fixup, an unknown type or an unresolved target changes nothing." With an unsound header no target resolves.
 unfoldable pub stepOf : List ℕ → List ℕ → Given → List ℕ → List ℕ
 stepOf image selectors g buffer =
@@ -32,7 +35,7 @@ visitedOf image selectors g buffer =
 
 -- All records of a segment, each with its own answer, in file order.
 abbrev pub givenIn : Request → Segment → ℕ → Given
-givenIn q s i = record { bytes = bytesAt (listOf q s) i; answer = importAnswer q i }
+givenIn q s i = oneOf (bytesAt (listOf q s) i) (importAnswer q i)
 
 abbrev pub givenOf : Request → Segment → List Given
 givenOf q s = each (s .records) (givenIn q s)

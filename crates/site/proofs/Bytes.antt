@@ -1,17 +1,19 @@
 -- Demand 2: the bytes of a segment whose sites are sound, and the marks.
+--     exactly, marked-exactly          what they are
+--     prepared-front, marked-front     they can be made in as many bytes as are stored
 -- Assumes nothing.
 use mathlib.Core.Path.{_≡_, sym, _∙_}
-use mathlib.Core.List.{List}
+use mathlib.Core.List.{List, _++_}
 use Prim.Native.Nat.{ℕ, _+_, _-_, _≤_, _<_}
 use native.Mathlib.Omega.{arith}
-use lib.ListN.{length, replicate, length-append, length-replicate, getD-replicate, List·getD-append, List·getD-eq-default}
+use lib.ListN.{length, replicate, length-append, length-replicate, getD-replicate, replicate-append-replicate, List·getD-append, List·getD-eq-default}
 use lib.Seq.{getD-append-add}
 use native.Mathlib.Decide.{decLt}
 use Rattle.le.specs.Number.{byteAt}
 use Rattle.le.specs.Slice.{zeros}
-use Rattle.lists.specs.Lists.{All, Pairs}
+use Rattle.lists.specs.Lists.{All, Pairs, inTurn}
 use Rattle.lists.proofs.All.{all-map, pairs-map}
-use Rattle.site.specs.Site.{Site, widthOf, endOf, InSpan, Inside, Apart, written}
+use Rattle.site.specs.Site.{Site, widthOf, endOf, InSpan, Inside, Apart, written, put}
 use Rattle.site.specs.Prepared.{unfixed, prepared, marked}
 use Rattle.site.specs.Exact.{Exact, Marked}
 use Rattle.site.proofs.Runs as runs
@@ -94,3 +96,22 @@ marked-exactly size sites inside apart =
         let low : p - s .at < width = omega (arith, k .0, k .1) in
         let stands = h (p - s .at) (omega (arith, length-replicate {A = ℕ} width 1)) ∙ getD-replicate width (p - s .at) 1 0 low in
         rw on at stands
+
+-- All sites can be written in the stored bytes alone, and the zeros stand behind them.
+pub prepared-front : (stored : List ℕ) (allocation : ℕ) (sites : List Site) → All (Inside stored) sites → unfixed (inTurn (put stored) sites stored) allocation ≡ prepared stored allocation sites
+prepared-front stored allocation sites inside =
+    let size = runs.length-runs placeOf (written stored) sites stored in
+    rw size (sym (runs.runs-front placeOf (written stored) sites stored (zeros (allocation - length stored)) (all-map (Inside stored) (λ s. s .at + length (written stored s) ≤ length stored) room sites inside)))
+  where
+    room : (s : Site) → Inside stored s → s .at + length (written stored s) ≤ length stored
+    room s h = omega (arith, within stored s)
+
+-- And so can the marks.
+pub marked-front : (few size : ℕ) (sites : List Site) → few ≤ size → All (λ s. endOf s ≤ few) sites → marked few sites ++ zeros (size - few) ≡ marked size sites
+marked-front few size sites fits inside =
+    let on : few + (size - few) ≡ size = omega arith in
+    let parts : zeros few ++ zeros (size - few) ≡ zeros size = replicate-append-replicate few (size - few) 0 ∙ rw on in
+    sym (runs.runs-front placeOf ones sites (zeros few) (zeros (size - few)) (all-map (λ s. endOf s ≤ few) (λ s. s .at + length (ones s) ≤ length (zeros few)) room sites inside)) ∙ rw parts
+  where
+    room : (s : Site) → endOf s ≤ few → s .at + length (ones s) ≤ length (zeros few)
+    room s h = omega (arith, length-replicate {A = ℕ} (widthOf (s .fixup .kind) (s .fixup .additive)) 1, length-replicate {A = ℕ} few 0)

@@ -3,13 +3,14 @@
 --     kept          a byte that no run hits is as it was
 --     there         where no byte is hit twice, each run stands in the list at the end
 --     exchange      two runs that hit no byte both can be stored in either order
+--     runs-front    runs that lie in the front of a list leave what is behind it
 -- Assumes nothing.
 use mathlib.Core.Path.{_≡_, refl, _∙_}
-use mathlib.Core.List.{List, [], _∷_}
+use mathlib.Core.List.{List, [], _∷_, _++_}
 use Prim.Native.Nat.{ℕ, zero, suc, _+_, _≤_, _<_}
 use native.Mathlib.Omega.{arith}
 use lib.ListN.{length, set, length-set}
-use lib.Seq.{sets, length-sets, set-comm, getD-set-same, getD-set-other}
+use lib.Seq.{sets, length-sets, set-comm, set-append-left, getD-set-same, getD-set-other}
 use Rattle.le.specs.Number.{byteAt}
 use Rattle.lists.specs.Lists.{All, Pairs, inTurn}
 use Rattle.lists.proofs.All.{all-map}
@@ -41,6 +42,12 @@ sets-sets l i vs j [] h = refl
 sets-sets l i vs j (b ∷ ws) h =
     rw (← (set-sets l i vs j b (λ low high. h j low high (omega arith) (omega arith))))
     (sets-sets (set l j b) i vs (suc j) ws (λ p low high low′ high′. h p low high (omega arith) (omega arith)))
+
+sets-front : (l m : List ℕ) (i : ℕ) (vs : List ℕ) → i + length vs ≤ length l → sets (l ++ m) i vs ≡ sets l i vs ++ m
+sets-front l m i [] h = refl
+sets-front l m i (a ∷ vs) h =
+    let fits : suc i + length vs ≤ length (set l i a) = omega (arith, length-set l i a) in
+    rw (set-append-left l m i a (omega arith)) (sets-front (set l i a) m (suc i) vs fits)
 
 module _ {A : Type 0} (at : A → ℕ) (bytes : A → List ℕ) where
   abbrev pub store : A → List ℕ → List ℕ
@@ -75,3 +82,7 @@ module _ {A : Type 0} (at : A → ℕ) (bytes : A → List ℕ) where
 
   pub exchange : (x y : A) → Clear x y → (l : List ℕ) → store y (store x l) ≡ store x (store y l)
   exchange x y c l = sets-sets l (at x) (bytes x) (at y) (bytes y) (λ p low high low′ high′. c p (low, high) (low′, high′))
+
+  pub runs-front : (xs : List A) (l m : List ℕ) → All (λ x. at x + length (bytes x) ≤ length l) xs → inTurn store xs (l ++ m) ≡ inTurn store xs l ++ m
+  runs-front [] l m f = refl
+  runs-front (x ∷ xs) l m f = rw (sets-front l m (at x) (bytes x) (f .0)) (runs-front xs (store x l) m (all-map (λ y. at y + length (bytes y) ≤ length l) (λ y. at y + length (bytes y) ≤ length (store x l)) (λ y h. omega (arith, length-sets l (at x) (bytes x))) xs (f .1)))

@@ -1,0 +1,51 @@
+-- `loader::step` meets its contract: the header's answer, then what the record asks for is carried out.
+-- Assumes nothing.
+use mathlib.Core.Path.{refl, sym, _∙_}
+use Rattle.header.specs.Header.{onHeader}
+use Rattle.prepare.specs.Step.{stepOf}
+use borrow.Author.Needs.{needs}
+use Rattle.loader.proofs.step.Statement.{statement}
+use Rattle.loader.proofs.step.Tie as tie
+
+read-requires : tie.Need-read-requires
+read-requires c κs = search needs
+
+enum-told : tie.Need-enum-told
+enum-told c = search needs
+
+enum-known-headers : tie.Need-enum-known-headers
+enum-known-headers c = search needs
+
+fields-requires : tie.Need-fields-requires
+fields-requires c κs = search needs
+
+action-requires : tie.Need-action-requires
+action-requires c κs = search needs
+
+carry-out-requires : tie.Need-carry-out-requires
+carry-out-requires c κs = search needs
+
+returns : tie.Need-returns
+unfolding stepOf onHeader
+returns c = rw (sym (c .before .before .read .ensures) ∙ c .enum-told .given .1) refl
+
+same-length : tie.Need-same-length
+same-length c = search needs
+
+returns-2 : tie.Need-returns-2
+unfolding stepOf onHeader
+returns-2 c = rw (sym (c .before .before .before .before .before .before .before .before .before .before .read .ensures) ∙ c .before .before .before .before .before .before .before .before .headers .given .1, sym (c .before .before .before .before .before .fields .ensures), sym (c .before .before .before .before .action .ensures)) (c .before .before .carry-out .ensures)
+
+pub step-spec : {M : Type 1} → statement M
+step-spec =
+    tie.close
+    (tie.spec
+    read-requires
+    enum-told
+    enum-known-headers
+    fields-requires
+    action-requires
+    carry-out-requires
+    returns
+    same-length
+    returns-2)

@@ -1,0 +1,134 @@
+// The records of a segment applied, once all that comes before them is passed.
+use crate::fill;
+use crate::records;
+use header::Header;
+use prepare::Answer;
+use segment::Segment;
+ghost use mathlib.Core.Path.{_≡_};
+ghost use Prim.Native.Nat.{_≤_};
+ghost use lib.ListN.{length, take, drop};
+ghost use Rattle.loader.specs.Room.{Room, Leaves, outcomeIn};
+
+// Segments up to this length take a small array: clearing a large one would cost more than all other work on them.
+const SMALL: u32 = 4096;
+
+// A segment without records is copied.
+pub fn segment(
+    image: &[u8],
+    h: Header,
+    s: Segment,
+    selectors: &[u16],
+    answers: &[u32],
+    output: &mut [u8],
+    marks: &mut [u8],
+) -> Answer
+    requires { ⌜ Room (now image) s (now answers) (now output) (now marks) ⌝ }
+    ensures { λ r. ⌜ Leaves (outcomeIn (now (image .entry)) h s (now (selectors .entry)) (now (answers .entry)) (now (marks .entry))) r (now (output .entry)) (now (output .exit)) (now (marks .entry)) (now (marks .exit)) ⌝ }
+{
+    let start = s.start;
+    let end = start + s.stored as usize;
+    let stored = &image[start..end];
+    if s.records == 0 {
+        fill::output(stored, s.allocation as usize, output);
+        return Answer::Accepted(0);
+    }
+    if s.stored <= SMALL {
+        return small(image, h, s, selectors, answers, stored, output, marks);
+    }
+    large(image, h, s, selectors, answers, stored, output, marks)
+}
+
+fn small(
+    image: &[u8],
+    h: Header,
+    s: Segment,
+    selectors: &[u16],
+    answers: &[u32],
+    stored: &[u8],
+    output: &mut [u8],
+    marks: &mut [u8],
+) -> Answer
+    requires { ⌜ Room (now image) s (now answers) (now output) (now marks) × (now stored ≡ take (s .stored) (drop (s .start) (now image))) × (s .stored ≤ 4096) ⌝ }
+    ensures { λ r. ⌜ Leaves (outcomeIn (now (image .entry)) h s (now (selectors .entry)) (now (answers .entry)) (now (marks .entry))) r (now (output .entry)) (now (output .exit)) (now (marks .entry)) (now (marks .exit)) ⌝ }
+{
+    let mut bytes = [0u8; 4096];
+    let size = s.stored as usize;
+    on(
+        image,
+        h,
+        s,
+        selectors,
+        answers,
+        stored,
+        &mut bytes[..size],
+        output,
+        marks,
+    )
+}
+
+fn large(
+    image: &[u8],
+    h: Header,
+    s: Segment,
+    selectors: &[u16],
+    answers: &[u32],
+    stored: &[u8],
+    output: &mut [u8],
+    marks: &mut [u8],
+) -> Answer
+    requires { ⌜ Room (now image) s (now answers) (now output) (now marks) × (now stored ≡ take (s .stored) (drop (s .start) (now image))) ⌝ }
+    ensures { λ r. ⌜ Leaves (outcomeIn (now (image .entry)) h s (now (selectors .entry)) (now (answers .entry)) (now (marks .entry))) r (now (output .entry)) (now (output .exit)) (now (marks .entry)) (now (marks .exit)) ⌝ }
+{
+    let mut bytes = [0u8; 65536];
+    let size = s.stored as usize;
+    on(
+        image,
+        h,
+        s,
+        selectors,
+        answers,
+        stored,
+        &mut bytes[..size],
+        output,
+        marks,
+    )
+}
+
+// Applies the records on `bytes`. They go to the output once all records are known good; otherwise the marks are cleared again.
+fn on(
+    image: &[u8],
+    h: Header,
+    s: Segment,
+    selectors: &[u16],
+    answers: &[u32],
+    stored: &[u8],
+    bytes: &mut [u8],
+    output: &mut [u8],
+    marks: &mut [u8],
+) -> Answer
+    requires { ⌜ Room (now image) s (now answers) (now output) (now marks) × (now stored ≡ take (s .stored) (drop (s .start) (now image))) × (length (now bytes) ≡ s .stored) ⌝ }
+    ensures { λ r. ⌜ Leaves (outcomeIn (now (image .entry)) h s (now (selectors .entry)) (now (answers .entry)) (now (marks .entry))) r (now (output .entry)) (now (output .exit)) (now (marks .entry)) (now (marks .exit)) ⌝ }
+{
+    le::slice::copy(stored, bytes);
+    let size = stored.len();
+    let answer = records::all(
+        image,
+        h,
+        s,
+        selectors,
+        answers,
+        stored,
+        &mut marks[..size],
+        bytes,
+    );
+    match answer {
+        Answer::Refused(why, number) => {
+            le::slice::clear(marks);
+            Answer::Refused(why, number)
+        }
+        Answer::Accepted(sites) => {
+            fill::output(bytes, s.allocation as usize, output);
+            Answer::Accepted(sites)
+        }
+    }
+}

@@ -1,0 +1,45 @@
+// The records of a segment, one after the other.
+use header::Header;
+use prepare::Answer;
+use segment::Segment;
+ghost use mathlib.Core.Path.{_≡_};
+ghost use Prim.Native.Nat.{_≤_};
+ghost use lib.ListN.{length};
+ghost use Rattle.follow.specs.Pass.{SameSize};
+ghost use Rattle.loader.specs.Run.{ran, runFrom, actionsIn};
+
+// Goes over all records of a segment: each is resolved, and its sites are claimed in the marks and written into `bytes`. Both have a
+// byte for each stored one.
+pub fn all(
+    image: &[u8],
+    h: Header,
+    s: Segment,
+    selectors: &[u16],
+    answers: &[u32],
+    stored: &[u8],
+    marks: &mut [u8],
+    bytes: &mut [u8],
+) -> Answer
+    requires { ⌜ SameSize (now stored) (now marks) (now bytes) × (s .records ≤ length (now answers)) ⌝ }
+    ensures { λ r. ⌜ ran r (now (marks .exit)) (now (bytes .exit)) ≡ runFrom (now (stored .entry)) (actionsIn (now (image .entry)) h s (now (selectors .entry)) (now (answers .entry))) 1 0 (now (marks .entry)) (now (bytes .entry)) ⌝ }
+{
+    let place = s.list;
+    let list = le::slice::from(image, place);
+    let mut index = 0;
+    let mut sites = 0;
+    while index < s.records {
+        let import = answers[index as usize];
+        let action = target::action(image, h, selectors, import, target::record(list, index));
+        let answer = follow::action(stored, action, sites, marks, bytes);
+        match answer {
+            follow::Answer::Halted(why) => {
+                return Answer::Refused(why, index as u32 + 1);
+            }
+            follow::Answer::Ended(done) => {
+                sites = done;
+                index += 1;
+            }
+        }
+    }
+    Answer::Accepted(sites)
+}
