@@ -1,4 +1,5 @@
 -- The fields of each C result, in the order of its struct.
+use mathlib.Core.Path.{_≡_}
 use Prim.Native.Nat.{ℕ, _^_, _<_}
 use mathlib.Core.List.{List, [], _∷_}
 use Rattle.names.specs.declared.Answer as names
@@ -8,6 +9,9 @@ use Rattle.ne.specs.declared.NeOrdinal.{NeOrdinal}
 use Rattle.ne.specs.declared.NeName.{NeName}
 use Rattle.ne.specs.declared.NeModule.{NeModule}
 use Rattle.ne.specs.declared.NeResource.{NeResource}
+use Rattle.ne.specs.declared.NePrepare.{NePrepare}
+use Rattle.prepare.specs.Prepare.{Request, prepareOf, answerOf, valuesOf}
+use Rattle.prepare.specs.Promise.{Promise}
 
 abbrev pub segmentFields : NeSegment → List ℕ
 segmentFields r = r .refusal ∷ r .start ∷ r .stored ∷ r .flags ∷ r .allocation ∷ r .records ∷ []
@@ -23,6 +27,14 @@ moduleFields r = r .refusal ∷ r .«text_at» ∷ r .«text_len» ∷ []
 
 abbrev pub resourceFields : NeResource → List ℕ
 resourceFields r = r .refusal ∷ r .kind ∷ r .id ∷ r .flags ∷ r .data_at ∷ r .data_len ∷ []
+
+abbrev pub prepareFields : NePrepare → List ℕ
+prepareFields r = r .refusal ∷ r .«record» ∷ r .sites ∷ []
+
+-- What `ne_prepare` promises: the numbers of the answer, and preparing's promise on the two buffers.
+pub record Prepares (q : Request) (r : NePrepare) (output output′ marks marks′ : List ℕ) : Type 0 where
+  pub fields : prepareFields r ≡ valuesOf (answerOf (prepareOf q))
+  pub buffers : Promise q (answerOf (prepareOf q)) output output′ marks marks′
 
 -- That the numbers of a name's answer fit the fields, as those of every answer to a query do.
 abbrev pub NameFits : names.Answer → Type 0

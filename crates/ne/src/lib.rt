@@ -12,7 +12,10 @@ ghost use Rattle.imports.specs.Module.{moduleOf};
 ghost use Rattle.imports.specs.Values as imported;
 ghost use Rattle.resources.specs.Resource.{resourceByNumber, resourceByWords};
 ghost use Rattle.resources.specs.Values as resources;
-ghost use Rattle.ne.specs.Fields.{segmentFields, ordinalFields, nameFields, moduleFields, resourceFields};
+ghost use lib.ListN.{length};
+ghost use Rattle.prepare.specs.Prepare.{requestOf};
+ghost use Rattle.prepare.specs.Step.{stepOf, oneOf};
+ghost use Rattle.ne.specs.Fields.{segmentFields, ordinalFields, nameFields, moduleFields, resourceFields, Prepares};
 
 #[repr(C)]
 pub struct NeSegment {
@@ -57,6 +60,13 @@ pub struct NeResource {
     pub flags: u32,
     pub data_at: u32,
     pub data_len: u32,
+}
+
+#[repr(C)]
+pub struct NePrepare {
+    pub refusal: u32,
+    pub record: u32,
+    pub sites: u32,
 }
 
 #[no_mangle]
@@ -164,4 +174,31 @@ pub extern "C" fn ne_resource_by_words(image: &[u8], kind: u32, id: u32) -> NeRe
     ensures { λ r. ⌜ resourceFields r ≡ resources.valuesOf (resourceByWords (now (image .entry)) kind id) ⌝ }
 {
     results::resource(resources::by_words(image, kind, id))
+}
+
+#[no_mangle]
+pub extern "C" fn ne_prepare(
+    image: &[u8],
+    number: u32,
+    selectors: &[u16],
+    answers: &[u32],
+    output: &mut [u8],
+    marks: &mut [u8],
+) -> NePrepare
+    ensures { λ r. ⌜ Prepares (requestOf (now (image .entry)) number (now (selectors .entry)) (now (answers .entry)) (length (now (output .entry))) (length (now (marks .entry)))) r (now (output .entry)) (now (output .exit)) (now (marks .entry)) (now (marks .exit)) ⌝ }
+{
+    results::prepared(loader::prepare(image, number, selectors, answers, output, marks))
+}
+
+#[no_mangle]
+pub extern "C" fn ne_step(
+    image: &[u8],
+    fixup: &[u8; 8],
+    answer: u32,
+    selectors: &[u16],
+    buffer: &mut [u8],
+)
+    ensures { λ _. ⌜ now (buffer .exit) ≡ stepOf (now (image .entry)) (now (selectors .entry)) (oneOf (now (fixup .entry)) answer) (now (buffer .entry)) ⌝ }
+{
+    loader::step(image, fixup, answer, selectors, buffer)
 }

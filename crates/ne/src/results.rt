@@ -1,10 +1,12 @@
-// The results that two calls share.
+// The results that two calls share, and that of preparing.
 use crate::NeName;
+use crate::NePrepare;
 use crate::NeResource;
 ghost use mathlib.Core.Path.{_≡_};
 ghost use Rattle.names.specs.Values as names;
 ghost use Rattle.resources.specs.Values as resources;
-ghost use Rattle.ne.specs.Fields.{NameFits, nameFields, resourceFields};
+ghost use Rattle.prepare.specs.Prepare as prepared;
+ghost use Rattle.ne.specs.Fields.{NameFits, nameFields, resourceFields, prepareFields};
 
 pub fn name(answer: names::Answer) -> NeName
     requires { ⌜ NameFits answer ⌝ }
@@ -59,5 +61,22 @@ pub fn resource(answer: resources::Answer) -> NeResource
                 data_len: r.len,
             }
         }
+    }
+}
+
+pub fn prepared(answer: prepare::Answer) -> NePrepare
+    ensures { λ r. ⌜ prepareFields r ≡ prepared.valuesOf answer ⌝ }
+{
+    match answer {
+        prepare::Answer::Refused(why, number) => NePrepare {
+            refusal: refusal::number(why),
+            record: number,
+            sites: 0,
+        },
+        prepare::Answer::Accepted(sites) => NePrepare {
+            refusal: 0,
+            record: 0,
+            sites: sites,
+        },
     }
 }
