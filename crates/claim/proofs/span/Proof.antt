@@ -1,10 +1,14 @@
 -- `claim::span` meets its contract: each way is a case of the definition.
 -- Assumes nothing.
 use mathlib.Core.Path.{_≡_, _∙_, refl, sym}
+use mathlib.Core.Bool.{true}
 use Prim.Native.Nat.{ℕ, _+_, _-_}
 use native.Mathlib.Omega.{arith}
 use borrow.Author.Tests.{lt-ltb, le-ltb}
-use Rattle.claim.specs.Claim.{claimOf}
+use denote.Ref.{now}
+use lib.Dec.{ltb}
+use lib.ListN.{length}
+use Rattle.claim.specs.Claim.{taken, claimOf}
 use borrow.Author.Needs.{needs}
 use Rattle.claim.proofs.span.Statement.{statement}
 use Rattle.claim.proofs.span.Tie as tie
@@ -18,7 +22,10 @@ width-of at width = omega arith
 
 returns : tie.Need-returns
 unfolding claimOf
-returns c = (rw (lt-ltb _ _ (c .if1 .taken)) refl, refl)
+returns c =
+    let a = c .before .before .args in
+    let past : ltb (length (now (a .marks))) (a .at + a .width) ≡ true = lt-ltb _ _ (c .if1 .taken) in
+    (rw past refl, refl)
 
 taken-requires : tie.Need-taken-requires
 taken-requires c κs = search needs
@@ -30,7 +37,8 @@ returns-2 : tie.Need-returns-2
 unfolding claimOf
 returns-2 c =
     let a = c .before .before .before .before .before .args in
-    let met = sym (rw (width-of (a .at) (a .width)) at (c .before .taken .ensures)) ∙ c .if2 .taken in
+    let one : taken (a .at + a .width - a .at) (now (a .marks)) (a .at) ≡ true = sym (c .before .taken .ensures) ∙ c .if2 .taken in
+    let met = rw (width-of (a .at) (a .width)) at one in
     (rw (le-ltb _ _ (c .before .before .before .if1 .left), met) refl, refl)
 
 mark-requires : tie.Need-mark-requires

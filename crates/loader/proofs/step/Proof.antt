@@ -1,7 +1,10 @@
 -- `loader::step` meets its contract: the header's answer, then what the record asks for is carried out.
 -- Assumes nothing.
-use mathlib.Core.Path.{refl, sym, _∙_}
+use mathlib.Core.Path.{_≡_, refl, sym, _∙_}
+use denote.Ref.{now}
 use Rattle.header.specs.Header.{onHeader}
+use Rattle.fixup.specs.Record.{recordAt}
+use Rattle.fixup.specs.Action.{actionOf}
 use Rattle.prepare.specs.Step.{stepOf}
 use borrow.Author.Needs.{needs}
 use Rattle.loader.proofs.step.Statement.{statement}
@@ -34,7 +37,11 @@ same-length c = search needs
 
 returns-2 : tie.Need-returns-2
 unfolding stepOf onHeader
-returns-2 c = rw (sym (c .before .before .before .before .before .before .before .before .before .before .read .ensures) ∙ c .before .before .before .before .before .before .before .before .headers .given .1, sym (c .before .before .before .before .before .fields .ensures), sym (c .before .before .before .before .action .ensures)) (c .before .before .carry-out .ensures)
+returns-2 c =
+    let a = c .before .before .before .before .before .before .before .before .before .before .before .before .before .before .args in
+    let h = c .before .before .before .before .before .before .before .before .headers .given .0 .0 in
+    let asks : c .before .before .before .before .action .result ≡ actionOf (now (a .image)) h (now (a .selectors)) (a .answer) (recordAt (now (a .fixup)) 0) = rw (sym (c .before .before .before .before .before .fields .ensures)) (c .before .before .before .before .action .ensures) in
+    rw (sym (c .before .before .before .before .before .before .before .before .before .before .read .ensures) ∙ c .before .before .before .before .before .before .before .before .headers .given .1, sym asks) (c .before .before .carry-out .ensures)
 
 pub step-spec : {M : Type 1} → statement M
 step-spec =

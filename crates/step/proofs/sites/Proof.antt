@@ -2,11 +2,12 @@
 -- Assumes nothing.
 use mathlib.Core.Path.{_≡_, _∙_, refl, sym}
 use mathlib.Core.Bool.{true, false}
-use Prim.Native.Nat.{suc, _-_, _<_}
+use Prim.Native.Nat.{suc, _+_, _-_, _<_}
 use native.Mathlib.Omega.{arith}
 use borrow.Author.Needs.{needs}
 use borrow.Author.Tests.{lt-ltb, le-ltb, eq-eqb, ne-eqb}
 use denote.Ref.{now}
+use lib.Dec.{ltb, eqb}
 use lib.ListN.{length}
 use Rattle.le.specs.Number.{wordAt}
 use Rattle.site.specs.Walk.{isLast}
@@ -45,7 +46,8 @@ returns c =
     let l = c .before .before .loop in
     let wide = c .before .before .before .before .width .ensures .0 in
     let a = c .before .before .before .before .before .before .args in
-    sym (past (a .f) (l .at) (l .buffer) (l .left) (rw wide at (lt-ltb _ _ (c .if1 .taken)))) ∙ l .inv .2
+    let over : ltb (length (l .buffer)) (l .at + c .before .before .before .before .width .result) ≡ true = lt-ltb _ _ (c .if1 .taken) in
+    sym (past (a .f) (l .at) (l .buffer) (l .left) (rw wide at over)) ∙ l .inv .2
 
 word-requires : tie.Need-word-requires Inv-loop μ-loop
 word-requires c κs = search needs
@@ -85,7 +87,8 @@ returns-3 c =
     let word = c .before .before .before .before .before .before .before .before .word .ensures in
     let wrote = put-is (l .buffer) (a .f) (l .at) (l .buffer) _ _ _ (c .before .before .before .before .before .before .byte .ensures) word (c .before .before .before .before .put .ensures) in
     let some : l .left ≡ suc (l .left - 1) = omega arith in
-    let last : isLast (a .f) (wordAt (l .buffer) (l .at)) ≡ true = rw (c .before .if2 .left, sym word, eq-eqb _ _ (c .if3 .taken)) in
+    let ends-here : eqb (c .before .before .before .before .before .before .before .before .word .result) 0xffff ≡ true = eq-eqb _ _ (c .if3 .taken) in
+    let last : isLast (a .f) (wordAt (l .buffer) (l .at)) ≡ true = rw (c .before .if2 .left, sym word, ends-here) in
     wrote ∙ sym (ends (a .f) (l .at) (l .buffer) (l .left - 1) inside last) ∙ rw some at (l .inv .2)
 
 cast-at-2 : tie.Need-cast-at-2 Inv-loop μ-loop
@@ -106,7 +109,8 @@ loop-again c =
     let word = c .before .before .before .before .before .before .before .before .word .ensures in
     let wrote = put-is (l .buffer) (a .f) (l .at) (l .buffer) _ _ _ (c .before .before .before .before .before .before .byte .ensures) word (c .before .before .before .before .put .ensures) in
     let some : l .left ≡ suc (l .left - 1) = omega arith in
-    let last : isLast (a .f) (wordAt (l .buffer) (l .at)) ≡ false = rw (c .before .if2 .left, sym word, ne-eqb _ _ (c .if3 .left)) in
+    let goes-on : eqb (c .before .before .before .before .before .before .before .before .word .result) 0xffff ≡ false = ne-eqb _ _ (c .if3 .left) in
+    let last : isLast (a .f) (wordAt (l .buffer) (l .at)) ≡ false = rw (c .before .if2 .left, sym word, goes-on) in
     (c .before .before .before .before .put .kept .1 .1 .1 .0 ∙ l .inv .0, omega arith, rw (wrote, word) (sym (goes (a .f) (l .at) (l .buffer) (l .left - 1) inside last) ∙ rw some at (l .inv .2)))
 
 same-length-4 : tie.Need-same-length-4 Inv-loop μ-loop

@@ -1,13 +1,14 @@
 -- `follow::sites::all` meets its contract. The loop's invariant: the pass from here on is the pass from the start on.
 -- Assumes nothing.
-use mathlib.Core.Path.{_≡_, _∙_, refl, sym}
-use Prim.Native.Nat.{_<_}
+use mathlib.Core.Path.{_≡_, _∙_, refl, ap}
+use Prim.Native.Nat.{ℕ, _<_}
 use native.Mathlib.Omega.{arith}
 use native.Mathlib.Numerals.{add-one}
 use borrow.Author.Needs.{needs}
 use denote.Ref.{now}
 use lib.ListN.{length}
-use Rattle.follow.specs.Pass.{passFrom, fuel}
+use Rattle.follow.specs.Pass.{passed, passFrom, fuel}
+use Rattle.follow.specs.declared.Answer.the-variants.{Ended}
 use Rattle.follow.proofs.sites.all.Statement.{statement}
 use Rattle.follow.proofs.sites.all.Tie as tie
 
@@ -58,7 +59,11 @@ same-length-4 c = search needs
 
 returns-2 : tie.Need-returns-2 Inv-loop μ-loop
 returns-2 c =
-    rw (add-one (c .before .before .before .before .before .before .before .before .before .loop .count)) (rw (c .enum-told .given .1) at (c .before .before .before .before .before .before .one .ensures .0) ∙ c .before .before .before .before .before .before .before .before .before .loop .inv .2)
+    let one = c .before .before .before .before .before .before .one in
+    let l = c .before .before .before .before .before .before .before .before .before .loop in
+    let whole = rw (c .enum-told .given .1) at (one .ensures .0) ∙ l .inv .2 in
+    let counted = ap (λ (count : ℕ). passed (Ended count) (one .last .1 .1 .1 .1 .1 .0) (one .last .1 .1 .1 .1 .1 .1 .0)) (add-one (l .count)) ∙ whole in
+    counted
 
 enum-known-site-2 : tie.Need-enum-known-site-2 Inv-loop μ-loop
 enum-known-site-2 c = search needs

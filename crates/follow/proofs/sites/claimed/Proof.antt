@@ -1,14 +1,17 @@
 -- `follow::sites::claimed` meets its contract: each way is a case of the definition.
 -- Assumes nothing.
-use mathlib.Core.Path.{_≡_, _∙_, refl, sym}
+use mathlib.Core.Path.{_≡_, _∙_, ap, sym}
 use mathlib.Core.Bool.{true, false}
-use Prim.Native.Nat.{_<_}
+use Prim.Native.Nat.{ℕ, suc, _<_}
 use native.Mathlib.Omega.{arith}
 use borrow.Author.Tests.{eq-eqb, ne-eqb}
 use denote.Ref.{now}
+use lib.Dec.{eqb}
 use Rattle.le.specs.Number.{wordAt}
+use Rattle.site.specs.Site.{siteOf, put}
 use Rattle.site.specs.Walk.{isLast}
 use Rattle.patch.proofs.Written.{put-is}
+use Rattle.follow.specs.Pass.{passFrom, fuel}
 use Rattle.follow.proofs.Pass.{over, ends, goes}
 use borrow.Author.Needs.{needs}
 use Rattle.follow.proofs.sites.claimed.Statement.{statement}
@@ -49,7 +52,8 @@ returns-3 c =
     let word = c .before .before .before .before .before .before .before .word .ensures in
     let wrote = put-is (now (a .stored)) (a .f) (a .at) (now (a .bytes)) _ _ _ (c .before .before .before .before .before .before .byte .ensures) word (c .before .before .before .before .put .ensures) in
     let room : a .done < 65536 = omega arith in
-    let last : isLast (a .f) (wordAt (now (a .stored)) (a .at)) ≡ true = rw (c .before .if2 .left, sym word, eq-eqb _ _ (c .if3 .taken)) in
+    let ends-here : eqb (c .before .before .before .before .before .before .before .word .result) 0xffff ≡ true = eq-eqb _ _ (c .if3 .taken) in
+    let last : isLast (a .f) (wordAt (now (a .stored)) (a .at)) ≡ true = rw (c .before .if2 .left, sym word, ends-here) in
     ((λ marks. rw (wrote) (ends (now (a .stored)) (a .f) (a .at) (a .done) marks (now (a .bytes)) room last)), room)
 
 same-length-3 : tie.Need-same-length-3
@@ -61,8 +65,9 @@ returns-4 c =
     let word = c .before .before .before .before .before .before .before .word .ensures in
     let wrote = put-is (now (a .stored)) (a .f) (a .at) (now (a .bytes)) _ _ _ (c .before .before .before .before .before .before .byte .ensures) word (c .before .before .before .before .put .ensures) in
     let room : a .done < 65536 = omega arith in
-    let last : isLast (a .f) (wordAt (now (a .stored)) (a .at)) ≡ false = rw (c .before .if2 .left, sym word, ne-eqb _ _ (c .if3 .left)) in
-    ((λ marks. rw (wrote, word) (goes (now (a .stored)) (a .f) (a .at) (a .done) marks (now (a .bytes)) room last)), room)
+    let goes-on : eqb (c .before .before .before .before .before .before .before .word .result) 0xffff ≡ false = ne-eqb _ _ (c .if3 .left) in
+    let last : isLast (a .f) (wordAt (now (a .stored)) (a .at)) ≡ false = rw (c .before .if2 .left, sym word, goes-on) in
+    ((λ marks. rw wrote (ap (λ (next : ℕ). passFrom (fuel (suc (a .done))) (now (a .stored)) (a .f) next (suc (a .done)) marks (put (now (a .stored)) (siteOf (a .f) (a .at)) (now (a .bytes)))) word ∙ goes (now (a .stored)) (a .f) (a .at) (a .done) marks (now (a .bytes)) room last)), room)
 
 pub claimed-spec : {M : Type 1} → statement M
 claimed-spec =

@@ -8,6 +8,7 @@ use native.Mathlib.Omega.{arith}
 use denote.Ref.{now}
 use lib.ListN.{length, take, drop, length-append, length-drop}
 use lib.Seq.{length-take-le}
+use Rattle.le.specs.Slice.{zeros}
 use Rattle.loader.proofs.Filled.{copied-whole}
 use Rattle.loader.proofs.Left.{stored-size, accepted-left, refused-left}
 use borrow.Author.Needs.{needs}
@@ -69,7 +70,9 @@ returns c =
     let gave = rw (c .before .before .before .before .before .answer .given .1, whole, start .pre .1) at (c .before .before .before .before .before .before .before .before .before .before .before .all .ensures) in
     let few : length (now (a .stored)) ≤ length (now (a .marks)) = omega (arith, size, start .pre .0 .marks-fit) in
     let same : length (c .before .before .before .before .before .before .before .before .before .before .before .all .last .1 .1 .1 .1 .1 .1 .0 ++ drop (length (now (a .stored))) (now (a .marks))) ≡ length (now (a .marks)) = omega (arith, length-append (c .before .before .before .before .before .before .before .before .before .before .before .all .last .1 .1 .1 .1 .1 .1 .0) (drop (length (now (a .stored))) (now (a .marks))), length-drop (length (now (a .stored))) (now (a .marks)), c .before .before .before .before .before .before .before .before .before .before .before .all .kept .1 .1 .1 .1 .1 .1 .0, length-take-le (length (now (a .stored))) (now (a .marks)) few, few) in
-    rw (c .before .before .clear .ensures, same) (refused-left (now (a .image)) (a .h) (a .s) (now (a .selectors)) (now (a .answers)) (now (a .output)) (now (a .marks)) (start .pre .0) _ _ _ _ gave)
+    let left = refused-left (now (a .image)) (a .h) (a .s) (now (a .selectors)) (now (a .answers)) (now (a .output)) (now (a .marks)) (start .pre .0) _ _ _ _ gave in
+    let cleared : c .before .before .clear .last .0 ≡ zeros (length (now (a .marks))) = c .before .before .clear .ensures ∙ ap zeros same in
+    rw cleared left
 
 same-length-3 : tie.Need-same-length-3
 same-length-3 c = search needs

@@ -1,6 +1,6 @@
 -- `loader::records::all` meets its contract. The loop's invariant: the pass over the records from here on is that from the first on.
 -- Assumes nothing.
-use mathlib.Core.Path.{_≡_, _∙_, refl, sym}
+use mathlib.Core.Path.{_≡_, _∙_, refl, ap}
 use Prim.Native.Nat.{ℕ, suc, _-_, _≤_, _<_}
 use native.Mathlib.Numerals.{add-one}
 use native.Mathlib.Omega.{arith}
@@ -10,7 +10,8 @@ use lib.ListN.{length, getD, drop}
 use Rattle.fixup.specs.Record.{recordAt}
 use Rattle.fixup.specs.Action.{actionOf}
 use Rattle.site.specs.declared.Action.{Action}
-use Rattle.loader.specs.Run.{runFrom, actionsIn}
+use Rattle.prepare.specs.declared.Answer.the-variants.{Refused}
+use Rattle.loader.specs.Run.{ran, runFrom, actionsIn}
 use Rattle.loader.proofs.Turns.{run-on, run-end}
 use Rattle.loader.proofs.records.all.Statement.{statement}
 use Rattle.loader.proofs.records.all.Tie as tie
@@ -76,7 +77,9 @@ returns c =
     let asks : c .before .before .before .before .before .before .before .before .before .before .action .result ≡ asked (l .index) = rw (c .before .before .before .before .before .before .before .before .before .before .action .ensures, c .before .before .before .before .before .before .before .before .before .before .before .«record» .ensures, c .before .before .before .before .before .before .before .before .before .before .before .before .before .before .before .before .from .ensures) refl in
     let pass = rw asks at (c .before .before .before .before .before .before .before .action2 .ensures) in
     let on = run-on (now (a .stored)) (a .s .records) asked (suc (l .index)) (l .sites) (l .marks) (l .bytes) (l .index) (omega arith) pass in
-    rw (add-one (l .index)) (rw (c .before .answer .given .1) at on ∙ l .inv .3)
+    let refused = rw (c .before .answer .given .1) at on ∙ l .inv .3 in
+    let numbered = ap (λ (n : ℕ). ran (Refused (c .before .answer .given .0 .0) n) (c .before .before .before .before .before .before .before .action2 .last .1 .1 .1 .0) (c .before .before .before .before .before .before .before .action2 .last .1 .1 .1 .1 .0)) (add-one (l .index)) ∙ refused in
+    numbered
 
 enum-known-answer-2 : tie.Need-enum-known-answer-2 Inv-loop μ-loop
 enum-known-answer-2 c = search needs
