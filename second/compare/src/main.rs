@@ -8,6 +8,7 @@
 #![deny(unsafe_code)]
 
 mod answer;
+mod bytes;
 mod calls;
 mod difference;
 mod edges;

@@ -1,7 +1,7 @@
 //! A call that remembers whether it ever differed, and isn't asked again then.
 //! It reports no difference, since the reports of many calls take long.
 
-use crate::calls::Call;
+use crate::calls::{Amount, Call};
 use crate::difference::Difference;
 use crate::inputs::Input;
 use crate::seen::Seen;
@@ -34,6 +34,10 @@ impl Call for Noticed {
 
     fn answers(&self) -> &'static [u32] {
         self.call.answers()
+    }
+
+    fn amounts(&self) -> Vec<Amount> {
+        self.call.amounts()
     }
 
     fn edges(&self) -> Box<dyn Iterator<Item = Tally>> {

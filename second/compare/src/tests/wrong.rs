@@ -71,7 +71,7 @@ fn wrong_headers() -> Vec<Named> {
 
 fn add_wrong_headers<Q: Query>(all: &mut Vec<Named>)
 where
-    Q::Result: From<Result<Q::Values, u32>>,
+    Q::Result: From<Result<Q::Values, Q::Why>>,
 {
     let wrong = header::functions::<Q>().into_iter();
     all.extend(wrong.map(|(name, function)| named(name, function)));
