@@ -46,9 +46,14 @@ impl<T> Held<T> {
 }
 
 impl Held<u8> {
-    /// Bytes that are all different from 0 and mostly from their neighbours.
+    /// Bytes that differ from 0 and from their neighbours: 1 to 255, over and
+    /// over, from any of these on.
     pub fn filled(length: usize, start: usize) -> Vec<u8> {
-        (start..start + length).map(filler).collect()
+        let mut all: Vec<u8> = (1..=255).collect();
+        all.rotate_left(start % 255);
+        let mut bytes = all.repeat(length.div_ceil(255));
+        bytes.truncate(length);
+        bytes
     }
 
     /// The room that a copy of these bytes is.
@@ -60,7 +65,26 @@ impl Held<u8> {
     }
 }
 
-/// 1 to 255, over and over.
-fn filler(place: usize) -> u8 {
-    (1 + place % 255) as u8
+/// So many numbers of a list are drawn; the others follow from one draw, since
+/// some lists are long.
+const DRAWN: usize = 64;
+
+/// Numbers that are often an edge.
+pub fn selectors(count: usize, random: &mut Random) -> Vec<u16> {
+    let mut drawn: Vec<u16> = (0..count.min(DRAWN)).map(|_| random.edge_u16()).collect();
+    drawn.extend(more(count, random).map(|number| number as u16));
+    drawn
+}
+
+/// Numbers that are often an edge.
+pub fn answers(count: usize, random: &mut Random) -> Vec<u32> {
+    let mut drawn: Vec<u32> = (0..count.min(DRAWN)).map(|_| random.edge_u32()).collect();
+    drawn.extend(more(count, random).map(|number| number as u32));
+    drawn
+}
+
+fn more(count: usize, random: &mut Random) -> impl Iterator<Item = u64> {
+    let start = random.next_u64();
+    let spread = |number: u64| number.wrapping_mul(0x9E37_79B9_7F4A_7C15) >> 32;
+    (DRAWN..count).map(move |index| spread(start.wrapping_add(index as u64)))
 }

@@ -1,7 +1,7 @@
 //! The requests that preparing is asked.
 
 use super::Preparing;
-use crate::calls::Held;
+use crate::calls::held::{self, Held};
 use crate::inputs::Input;
 use crate::stated;
 use builder::Random;
@@ -14,12 +14,10 @@ pub fn worth_preparing(input: &Input, request: u64, random: &mut Random) -> Prep
     let needed = needed(&input.bytes, number);
     let [selectors, answers, output, marks] = lengths(needed, request, random);
     let start = random.below(255);
-    let selectors = (0..selectors).map(|_| random.edge_u16()).collect();
-    let answers = (0..answers).map(|_| random.edge_u32()).collect();
     Preparing {
         number,
-        selectors: Held::drawn(selectors, random),
-        answers: Held::drawn(answers, random),
+        selectors: Held::drawn(held::selectors(selectors, random), random),
+        answers: Held::drawn(held::answers(answers, random), random),
         output: Held::drawn(Held::filled(output, start), random),
         marks: Held::drawn(Held::filled(marks, start), random),
     }

@@ -1,7 +1,7 @@
 //! The requests that the step is asked, most of which preparing would refuse.
 
 use super::Stepping;
-use crate::calls::Held;
+use crate::calls::held::{self, Held};
 use crate::inputs::Input;
 use crate::stated;
 use builder::Random;
@@ -14,11 +14,10 @@ pub fn worth_stepping(input: &Input, request: u64, random: &mut Random) -> Stepp
     let record = ground.record(request, random);
     let buffer = ground.buffer(request, random);
     let selectors = ground.selectors(request, random);
-    let selectors = (0..selectors).map(|_| random.edge_u16()).collect();
     Stepping {
         record,
         answer: random.edge_u32(),
-        selectors: Held::drawn(selectors, random),
+        selectors: Held::drawn(held::selectors(selectors, random), random),
         buffer: Held::drawn(buffer, random),
     }
 }
