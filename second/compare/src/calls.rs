@@ -21,7 +21,7 @@ pub use module::ModuleQuery;
 pub use name_by_bytes::NameByBytes;
 pub use name_by_number::NameByNumber;
 pub use ordinal::OrdinalQuery;
-pub use prepare::{in_every_order, InEveryOrder, Prepare, Prepared, Preparing};
+pub use prepare::{InEveryOrder, Prepare, Prepared, Preparing};
 pub use query::{AmountOf, AnswerOf, FieldsOf, Function, Query};
 pub use request::{Request, Text, Words};
 pub use resource_by_number::ResourceByNumber;
@@ -101,10 +101,7 @@ fn agree<T: PartialEq, W: Why>(
 }
 
 /// Both answers as text, if they differ.
-fn differing<T: Values, W: Why>(
-    library: Answer<T, W>,
-    reference: Answer<T, W>,
-) -> Option<Answers> {
+fn differing<T: Values, W: Why>(library: Answer<T, W>, reference: Answer<T, W>) -> Option<Answers> {
     (library != reference).then(|| match (&library, &reference) {
         (Answer::Accepted(one), Answer::Accepted(other)) => Answers {
             library: one.beside(other),

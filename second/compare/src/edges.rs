@@ -5,6 +5,7 @@
 //! every call does first is in `header`; what two calls have in common is in
 //! `names` and `resources`.
 
+mod fixups;
 mod header;
 pub mod judge;
 mod minimal;

@@ -1,7 +1,7 @@
 //! Preparing a segment.
 
 mod draw;
-pub mod in_every_order;
+mod in_every_order;
 mod request;
 mod values;
 

@@ -22,13 +22,7 @@ pub struct Step;
 pub type InPlace = fn(&[u8], &[u8; 8], u32, &[u16], &mut [u8]);
 
 /// The library's.
-pub fn exported(
-    image: &[u8],
-    record: &[u8; 8],
-    answer: u32,
-    selectors: &[u16],
-    buffer: &mut [u8],
-) {
+pub fn exported(image: &[u8], record: &[u8; 8], answer: u32, selectors: &[u16], buffer: &mut [u8]) {
     let (image, selectors) = (Lent::These(image), Lent::These(selectors));
     library::step(image, record, answer, selectors, Room::These(buffer));
 }

@@ -59,7 +59,6 @@ impl<Q: Query> Judge<Q> {
         demand(&mut self.tally, name, expected, answers);
     }
 
-    /// An image of 0 bytes, which the library may be handed at any address.
     pub fn refuses_nothing_at(
         &mut self,
         name: &str,
@@ -67,13 +66,24 @@ impl<Q: Query> Judge<Q> {
         request: &Q::Request,
         refusal: u32,
     ) {
+        let expected = Answer::Refused(refusal.into());
+        self.expects_of_nothing_at(name, address, request, &expected);
+    }
+
+    /// An image of 0 bytes, which the library may be handed at any address.
+    pub fn expects_of_nothing_at(
+        &mut self,
+        name: &str,
+        address: usize,
+        request: &Q::Request,
+        expected: &AnswerOf<Q>,
+    ) {
         let library = Q::exported(Lent::NothingAt(address), request);
         let answers = [
             ("library", library.into()),
             ("reference", Q::reference(&[], request).into()),
         ];
-        let expected = Answer::Refused(refusal.into());
-        demand(&mut self.tally, name, &expected, answers);
+        demand(&mut self.tally, name, expected, answers);
     }
 }
 

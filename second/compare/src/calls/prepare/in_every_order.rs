@@ -3,7 +3,7 @@
 
 mod orders;
 
-pub use orders::each_order;
+use orders::each_order;
 
 use super::{Prepare, Prepared, Preparing};
 use crate::answer::Answer;
