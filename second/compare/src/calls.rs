@@ -27,7 +27,7 @@ pub use request::{Request, Text, Words};
 pub use resource_by_number::ResourceByNumber;
 pub use resource_by_words::ResourceByWords;
 pub use segment::SegmentQuery;
-pub use step::{Step, Stepped, Stepping};
+pub use step::{InPlace, Step, Stepped, Stepping};
 
 use crate::answer::{Answer, Why};
 use crate::difference::{Answers, Difference};

@@ -2,7 +2,8 @@
 
 use super::{case, internal, one_segment, shorter, with_bytes, Special};
 use crate::description::{
-    Bundle, Description, FixedEntry, Fixup, Put, Stored, Target, ADDITIVE, HAS_RECORDS, ITERATED,
+    Bundle, Description, FixedEntry, Fixup, Part, Put, Stored, Target, ADDITIVE, HAS_RECORDS,
+    ITERATED,
 };
 use crate::generate::Case;
 use crate::layout::FieldKind;
@@ -12,6 +13,7 @@ pub(super) fn segments() -> Vec<Special> {
     all.extend(ends());
     all.extend(flags_and_allocation());
     all.extend(targets());
+    all.extend(great_numbers());
     all.extend(sites());
     all.push(Special::of("every kind of fixup", every_kind));
     all
@@ -191,6 +193,64 @@ fn with_target(flags: u8, target: Target) -> Description {
     description.imported.push(b"KERNEL");
     description.imported.push(b"GDI");
     description.modules = vec![1, 8];
+    description
+}
+
+/// Targets with the greatest numbers of a byte, and strings about the image's
+/// end.
+fn great_numbers() -> Vec<Special> {
+    let mut all = Vec::new();
+    for segments in [253, 254, 255, 256] {
+        let name = format!("segment 254 of {segments} as a target");
+        all.push(Special::of(name, move || segment_254(segments)));
+    }
+    for module in [255, 256, 257, 300, 301] {
+        let name = format!("module {module} of 300 as a target");
+        all.push(Special::of(name, move || {
+            let target = Target::ImportOrdinal { module, ordinal: 1 };
+            let mut description = with_target(1, target);
+            description.modules = vec![1; 300];
+            description
+        }));
+    }
+    for by in [0, 1, 3] {
+        let name = format!("an imported string ends the image, less {by}");
+        all.push(Special::new(name, move || {
+            shorter(case(string_at_the_end()), by)
+        }));
+    }
+    all
+}
+
+/// All but the first segment have no stored bytes.
+fn segment_254(segments: usize) -> Description {
+    let target = Target::Segment {
+        number: 254,
+        reserved: 0,
+        offset: 0x0102,
+    };
+    let mut description = with_target(0, target);
+    let mut empty = description.segments[0].clone();
+    empty.stored = Stored::None { length: 0 };
+    empty.flags = 0;
+    empty.fixups.clear();
+    description.segments.resize(segments, empty);
+    description.in_usual_order()
+}
+
+/// The last of the imported names, "GDI", is the target.
+fn string_at_the_end() -> Description {
+    let target = Target::ImportName {
+        module: 1,
+        string: 8,
+    };
+    let mut description = with_target(2, target).in_usual_order();
+    description
+        .order
+        .retain(|(part, _)| *part != Part::ImportedNames);
+    description
+        .order
+        .push((Part::ImportedNames, Put::After { gap: 0 }));
     description
 }
 

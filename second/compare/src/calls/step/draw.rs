@@ -37,7 +37,11 @@ impl Ground {
     fn of(input: &Input, random: &mut Random) -> Self {
         let image = &input.bytes;
         let segments = stated::segment_count(image) as usize;
-        let any = 1 + random.below(segments) as u32;
+        // Where there are many, most of the others have no records.
+        let any = match random.chance(50) {
+            true => 1,
+            false => 1 + random.below(segments) as u32,
+        };
         let bundles = stated::bundles(image);
         let mut ground = Ground {
             segments,
@@ -87,7 +91,8 @@ impl Ground {
         [kind, flags, low, high, first, next, last, end]
     }
 
-    /// A number from 1 to the count or just beyond, and any word or an ordinal.
+    /// A number from 1 to the count or just beyond, now and then with another
+    /// high byte, and any word or an ordinal.
     fn target(&self, relation: u8, random: &mut Random) -> [u8; 4] {
         let count = match relation {
             0 => self.segments.min(254),
@@ -95,6 +100,9 @@ impl Ground {
         };
         let beyond = usize::from(random.one_in(6));
         let mut first = (1 + random.below(count + beyond)) as u16;
+        if random.one_in(8) {
+            first |= 0x0100;
+        }
         let mut last = random.edge_u16();
         if relation == 0 && random.one_in(3) {
             first |= 0xFF;
@@ -116,13 +124,16 @@ impl Ground {
         }
     }
 
-    /// The segment's own bytes, also with a byte more or less; short ones; and
+    /// The segment's own bytes, also with a few more or one less; short ones; and
     /// ones in which chains cross and turn back.
     fn buffer(&self, request: u64, random: &mut Random) -> Vec<u8> {
         let mut bytes = self.bytes.clone();
         match request {
             0 | 2 => {}
-            1 => bytes.resize((bytes.len() + random.below(3)).saturating_sub(1), 0xFF),
+            1 => {
+                let more = random.pick(&[0, 2, 2, 5]);
+                bytes.resize((bytes.len() + more).saturating_sub(1), 0xFF);
+            }
             3 => bytes = chains(random.below(10), random),
             _ => {
                 let length = random.pick(&[9, 20, 60]);
