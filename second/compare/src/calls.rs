@@ -8,13 +8,13 @@ mod name_by_bytes;
 mod name_by_number;
 mod numbers;
 mod ordinal;
-mod prepare;
+pub mod prepare;
 mod query;
 mod request;
 mod resource_by_number;
 mod resource_by_words;
 mod segment;
-mod step;
+pub mod step;
 
 pub use held::Held;
 pub use module::ModuleQuery;
@@ -27,11 +27,11 @@ pub use request::{Request, Text, Words};
 pub use resource_by_number::ResourceByNumber;
 pub use resource_by_words::ResourceByWords;
 pub use segment::SegmentQuery;
-pub use step::{InPlace, Step, Stepped, Stepping};
+pub use step::{Step, Stepped, Stepping};
 
 use crate::answer::{Answer, Why};
 use crate::difference::{Answers, Difference};
-use crate::inputs::Input;
+use crate::inputs::{Input, Kind};
 use crate::results::Values;
 use crate::seen::Seen;
 use builder::Random;
@@ -56,6 +56,12 @@ pub trait Call {
 
     /// The kinds of cases that a whole run must have so many of.
     fn amounts(&self) -> Vec<Amount>;
+
+    /// Whether this request is made of images of this kind. It is left out where
+    /// it takes long and shows little.
+    fn makes(&self, _kind: Kind, _request: u64) -> bool {
+        true
+    }
 
     /// Demands the answers written out by hand of both programs, one subject
     /// after the other as the iterator goes on.

@@ -1,7 +1,7 @@
 //! Preparing a segment.
 
 mod draw;
-mod in_every_order;
+pub mod in_every_order;
 mod request;
 mod values;
 

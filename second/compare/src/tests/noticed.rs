@@ -3,7 +3,7 @@
 
 use crate::calls::{Amount, Call};
 use crate::difference::Difference;
-use crate::inputs::Input;
+use crate::inputs::{Input, Kind};
 use crate::seen::Seen;
 use builder::Random;
 use std::cell::Cell;
@@ -38,6 +38,10 @@ impl Call for Noticed {
 
     fn amounts(&self) -> Vec<Amount> {
         self.call.amounts()
+    }
+
+    fn makes(&self, kind: Kind, request: u64) -> bool {
+        self.call.makes(kind, request)
     }
 
     fn edges(&self) -> Box<dyn Iterator<Item = Tally>> {

@@ -1,7 +1,7 @@
 //! Demand 3 as a run: the steps over all records, in any order, give the
 //! prepared bytes.
 
-mod orders;
+pub mod orders;
 
 use orders::each_order;
 
@@ -11,7 +11,7 @@ use crate::bytes;
 use crate::calls::step::{self, InPlace};
 use crate::calls::{Amount, Call, Function, Query, Request};
 use crate::difference::{Answers, Difference};
-use crate::inputs::Input;
+use crate::inputs::{Input, Kind};
 use crate::seen::Seen;
 use crate::stated;
 use builder::Random;
@@ -121,6 +121,11 @@ impl Call for InEveryOrder {
         let mut amounts = self.prepare.amounts();
         amounts.push(ORDERS);
         amounts
+    }
+
+    /// Of the many systematic images those that are about the damaged segment.
+    fn makes(&self, kind: Kind, request: u64) -> bool {
+        kind != Kind::Systematic || matches!(request, 0 | 2 | 4)
     }
 
     fn edges(&self) -> Box<dyn Iterator<Item = Tally>> {

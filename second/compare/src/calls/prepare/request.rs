@@ -8,7 +8,7 @@ use reference::Refused;
 
 /// A segment's number and all that is lent; output and marks hold these bytes
 /// as they come.
-#[derive(Clone, Debug, PartialEq, Eq)]
+#[derive(Clone, Debug, PartialEq, Eq, PartialOrd, Ord)]
 pub struct Preparing {
     pub number: u32,
     pub selectors: Held<u16>,

@@ -7,7 +7,7 @@ use crate::calls::{Held, Request};
 
 /// A record with its own import answer, and all that is lent; the buffer holds
 /// these bytes as it comes.
-#[derive(Clone, Debug, PartialEq, Eq)]
+#[derive(Clone, Debug, PartialEq, Eq, PartialOrd, Ord)]
 pub struct Stepping {
     pub record: [u8; 8],
     pub answer: u32,

@@ -42,8 +42,9 @@ fn judge_one(judge: &mut Judge, name: &str, entries: Vec<u8>, refusal: u32) {
 /// So many null ordinals and no end byte.
 fn nulls(count: usize) -> Vec<u8> {
     let mut table = [255, 0].repeat(count / 255);
-    if count % 255 > 0 {
-        table.extend([(count % 255) as u8, 0]);
+    match count % 255 {
+        0 => {}
+        rest => table.extend([rest as u8, 0]),
     }
     table
 }

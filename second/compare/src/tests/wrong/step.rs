@@ -4,7 +4,8 @@ mod work;
 
 use super::fixups::Fault;
 use crate::answer::Answer;
-use crate::calls::{Function, InEveryOrder, InPlace, Query, Step, Stepped, Stepping};
+use crate::calls::step::InPlace;
+use crate::calls::{Function, InEveryOrder, Query, Step, Stepped, Stepping};
 use work::faulty;
 
 /// The right one, for the others to spoil.
