@@ -1,7 +1,8 @@
 //! Refusals 9, 10 and 11 of the segment that is prepared.
 
 use super::super::fixups::{chained, module, Module, OFFSET};
-use super::{asked, refused, Judge};
+use super::{asked, prepared, refused, Judge};
+use crate::answer::Answer;
 
 pub fn edges(judge: &mut Judge) {
     stored_bytes(judge);
@@ -9,6 +10,7 @@ pub fn edges(judge: &mut Judge) {
     flags(judge);
     allocation(judge);
     without_stored_bytes(judge);
+    great_places(judge);
 }
 
 const FOUR: [u8; 4] = [0xFF, 0xFF, 7, 8];
@@ -91,5 +93,32 @@ fn without_stored_bytes(judge: &mut Judge) {
             ..plain
         };
         judge.refuses_at(&format!("{name}, iterated"), &iterated, 10, 0);
+    }
+}
+
+/// Sector FFFFh at a shift of 8 has the last 256 bytes of the longest image: 238
+/// stored bytes, a count, a record and 8 more. At greater shifts it lies
+/// outside, at a place of up to 31 bits.
+fn great_places(judge: &mut Judge) {
+    let stored = [&FOUR[..], &[9; 234]].concat();
+    let small = module(&stored, &[chained(OFFSET, 0)]);
+    let (start, end) = (0xFFFF00, 0x100_0000);
+    let list = [&[1, 0], &small.records.concat()[..]].concat();
+    let tail = [&stored[..], &list, &[0; 8]].concat();
+    let image = small.image().length(end).put(start, &tail);
+    let placed = |length, shift| {
+        let row = [0xFFFF, length, 0x0100, length];
+        image.clone().ne_word(0x32, shift).record(128, row)
+    };
+    let request = asked(&small);
+    let bytes = [&DONE[..], &[9; 234]].concat();
+    let done = Answer::Accepted(prepared(&request, &bytes, &[1, 1], 1));
+    let name = "the last sector of 16,777,216 bytes";
+    judge.expects(name, &placed(238, 8), &request, &done);
+    let past = placed(238, 8).length(end - 9);
+    judge.expects(&format!("{name}, cut"), &past, &request, &refused(9, 0));
+    for shift in [9, 14, 15] {
+        let name = format!("sector FFFFh, shift {shift}");
+        judge.expects(&name, &placed(238, shift), &request, &refused(9, 0));
     }
 }
