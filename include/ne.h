@@ -138,9 +138,10 @@ struct ne_prepare_result {
 
 /*
  * Prepares the segment of a number, counted from 1: its stored bytes, zeros up to its allocation, and all its fixups done.
- * ne_segment says how long the lists must be. `selectors` has one for each segment of the module, `answers` one for each
- * record of this segment, whatever its kind: that of record n (counted from 0) is answers[n], read where the record is an
- * import, with the offset in the low word and the selector in the high word. Longer lists are fine.
+ * `selectors` has one for each segment of the module, as many as the word at 1Ch of the NE header says. `answers` has one
+ * for each record of this segment, whatever its kind: that of record n, counted from 1, is answers[n - 1], and is read where
+ * the record is an import, with the offset in the low word and the selector in the high word. ne_segment gives the number of
+ * records, the allocation and the number of stored bytes. Longer lists are fine.
  *
  * Accepted: `output` has the prepared bytes, and is as it came from the allocation's length on; `marks` has 1 exactly at
  * each byte that lies in a fixup's span and 0 elsewhere, also from the stored length on. Refused: `output` is as it came,

@@ -15,7 +15,7 @@ pub fn right(image: &[u8], request: &Stepping) -> Answer<Stepped> {
 
 /// Right too, and the one that faults are put in.
 pub fn worked(image: &[u8], request: &Stepping) -> Answer<Stepped> {
-    done(request, |buffer| of(Fault::None, image, request, buffer))
+    request.answered(|buffer| of(Fault::None, image, request, buffer))
 }
 
 /// A byte changes in a rare buffer.
@@ -29,10 +29,6 @@ pub fn rare_byte(image: &[u8], request: &Stepping) -> Answer<Stepped> {
         }
         other => other,
     }
-}
-
-fn done(request: &Stepping, work: impl FnOnce(&mut [u8])) -> Answer<Stepped> {
-    request.answered(work)
 }
 
 fn of(fault: Fault, image: &[u8], request: &Stepping, buffer: &mut [u8]) {
@@ -54,7 +50,7 @@ macro_rules! faulty {
     ($($fault:ident),+ $(,)?) => {
         [$((
             stringify!($fault),
-            |image, request| done(request, |buffer| of(Fault::$fault, image, request, buffer)),
+            |image, request| request.answered(|buffer| of(Fault::$fault, image, request, buffer)),
             |image, record, answer, selectors, buffer| {
                 faulty(Fault::$fault, image, record, answer, selectors, buffer);
             },
