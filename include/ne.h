@@ -1,16 +1,16 @@
 /*
- * Parchgable: a proved reader of 16-bit Windows modules (New Executable, "NE").
+ * Parchgable: a proved reader and segment preparer of 16-bit Windows modules (New Executable, "NE").
  *
  * Every function takes any bytes as an image and any number or name as a request, and returns. None of them allocates,
- * keeps a pointer, reads outside the memory that is lent to it or uses any state of its own, so all may be called from
- * several threads at once.
+ * keeps a pointer, reads or writes outside the memory that is lent to it or uses any state of its own, so all may be called
+ * from several threads at once.
  *
- * An image is a pointer and its length in bytes, from the first byte of the file ("MZ") on. A name that is asked for is a
- * pointer and its length too. The pointer to an empty image or name may be anything. Places are counted from the file's
- * start.
+ * An image is a pointer and its length in bytes, from the first byte of the file ("MZ") on. A name that is asked for, a
+ * list and lent room are a pointer and a length too, in elements. The pointer to an empty one may be anything. Places are
+ * counted from the file's start.
  *
  * A result's `refusal` is 0 if the request was accepted. Otherwise it is the number of the first check that failed, and
- * every other field is 0:
+ * every other field is 0, but for the `record` of refusals 22 to 26:
  *
  *      1  the image has under 64 bytes
  *      2  the image has over 16,777,216 bytes
@@ -33,6 +33,13 @@
  *     18  the resource table leaves the image, or its shift is over 15
  *     19  the resource asked for is not found
  *     20  the data of the resource that was found leaves the image
+ *     21  there are fewer selectors than segments, fewer answers than records, less output than the allocation, or fewer
+ *         marks than stored bytes
+ *     22  a fixup's type is not 0, 2, 3 or 5
+ *     23  a fixup's target does not resolve
+ *     24  a fixup's span lies outside the stored bytes
+ *     25  a fixup's span meets an earlier one
+ *     26  over 65,536 sites were followed; never given, since that many spans that do not meet have no room
  */
 #ifndef NE_H
 #define NE_H
@@ -121,6 +128,51 @@ struct ne_resource_result ne_resource_by_number(const uint8_t *image, size_t ima
  * Refusals: 1 to 7, then 18 for the whole table, whatever the words are, then 19, then 20.
  */
 struct ne_resource_result ne_resource_by_words(const uint8_t *image, size_t image_len, uint32_t type, uint32_t id);
+
+/* One prepared segment. */
+struct ne_prepare_result {
+    uint32_t refusal;
+    uint32_t record; /* in refusals 22 to 26 the number of the bad record, counted from 1 */
+    uint32_t sites;  /* how many sites its fixups have together, 0 to 65,535 */
+};
+
+/*
+ * Prepares the segment of a number, counted from 1: its stored bytes, zeros up to its allocation, and all its fixups done.
+ * `selectors` has one for each segment of the module, as many as the word at 1Ch of the NE header says. `answers` has one
+ * for each record of this segment, whatever its kind: that of record n, counted from 1, is answers[n - 1], and is read where
+ * the record is an import, with the offset in the low word and the selector in the high word. ne_segment gives the number of
+ * records, the allocation and the number of stored bytes. Longer lists are fine.
+ *
+ * Accepted: `output` has the prepared bytes, and is as it came from the allocation's length on; `marks` has 1 exactly at
+ * each byte that lies in a fixup's span and 0 elsewhere, also from the stored length on. Refused: `output` is as it came,
+ * and `marks` is 0 over its whole length.
+ *
+ * `output` and `marks` must overlap neither each other nor any other memory that is lent to the call.
+ *
+ * Refusals: 1 to 7, then 8, then 12 to 14 for the whole entry table, then 10, 11, 9, 21, then record by record 22, 23, and
+ * at each site 24, 25, 26.
+ *
+ * Stack: under 80 KiB.
+ */
+struct ne_prepare_result ne_prepare(const uint8_t *image, size_t image_len, uint32_t number, const uint16_t *selectors,
+                                    size_t selectors_len, const uint32_t *answers, size_t answers_len, uint8_t *output,
+                                    size_t output_len, uint8_t *marks, size_t marks_len);
+
+/*
+ * Does one fixup record in a buffer, as ne_prepare does each of them in the output. Where a segment is accepted by
+ * ne_prepare, a buffer of its stored bytes and zeros up to its allocation becomes the prepared bytes by a step for each
+ * record, each with its own answer, in any order of the records.
+ *
+ * `record` points to the record's 8 bytes. The image's header and tables are read for the record's target only; the chain
+ * is read from the buffer. From the record's site on, each site is written until a span would pass the buffer, until the
+ * chain ends, or until as many sites are written as the buffer has bytes. An OS fixup, a record of another type than 0, 2,
+ * 3 or 5, and a target that does not resolve change nothing: with an image that 1 to 7 refuse no target resolves, with an
+ * entry table that 12 to 14 refuse no ordinal does, and a segment does not that has no selector in the list.
+ *
+ * `buffer` must overlap no other memory that is lent to the call, the image included.
+ */
+void ne_step(const uint8_t *image, size_t image_len, const uint8_t record[8], uint32_t answer, const uint16_t *selectors,
+             size_t selectors_len, uint8_t *buffer, size_t buffer_len);
 
 #ifdef __cplusplus
 }

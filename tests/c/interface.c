@@ -45,6 +45,11 @@ SAME(offsetof(struct ne_resource_result, flags), 12);
 SAME(offsetof(struct ne_resource_result, data_at), 16);
 SAME(offsetof(struct ne_resource_result, data_len), 20);
 
+SAME(sizeof(struct ne_prepare_result), 12);
+SAME(offsetof(struct ne_prepare_result, refusal), 0);
+SAME(offsetof(struct ne_prepare_result, record), 4);
+SAME(offsetof(struct ne_prepare_result, sites), 8);
+
 static int failures = 0;
 
 static void expect(const char *what, uint32_t got, uint32_t wanted)
@@ -312,6 +317,149 @@ static void resources(void)
     resource_refused("words with shift 16", ne_resource_by_words(image, sizeof image, 0x8006, 0x8007), 18);
 }
 
+/* Two fixups: a chain of far pointers at 0 and 8 to ordinal 3, and an additive offset at 14 to import 2 of module 1. */
+static const uint8_t fixups[2][8] = {{3, 0, 0, 0, 255, 0, 3, 0}, {5, 5, 14, 0, 1, 0, 2, 0}};
+
+/* The stored bytes: the chain's words at 0 and 8, and at 14 the word FFFEh. */
+static const uint8_t stored[20] = {8, 0, 1, 1, 2, 2, 2, 2, 0xff, 0xff, 3, 3, 4, 4, 0xfe, 0xff, 5, 5, 6, 6};
+
+/* What becomes of them with selector 2345h for segment 1, and 6789h:0003h for the import. */
+static const uint8_t done[24] = {0x34, 0x12, 0x45, 0x23, 2, 2, 2, 2, 0x34, 0x12, 0x45, 0x23,
+                                 4,    4,    1,    0,    5, 5, 6, 6, 0,    0,    0,    0};
+static const uint8_t marked[20] = {1, 1, 1, 1, 0, 0, 0, 0, 1, 1, 1, 1, 0, 0, 1, 1, 0, 0, 0, 0};
+
+static const uint16_t selectors[] = {0x2345};
+static const uint32_t answers[] = {0xdeadbeef, 0x67890003};
+
+/* The module above, with these in its segment and an allocation of 24 bytes. */
+static void make_fixups(uint8_t image[SIZE])
+{
+    make(image);
+    put_word(image + 134, 24);
+    memcpy(image + 144, stored, sizeof stored);
+    memcpy(image + 144 + 20 + 2, fixups, sizeof fixups);
+}
+
+/* Lent room with something in it, longer than it need be. */
+struct room {
+    uint8_t output[30];
+    uint8_t marks[25];
+};
+
+static struct ne_prepare_result prepare(const uint8_t *image, size_t len, uint32_t number, struct room *room)
+{
+    memset(room->output, 0xa5, sizeof room->output);
+    memset(room->marks, 0x5a, sizeof room->marks);
+    return ne_prepare(image, len, number, selectors, 1, answers, 2, room->output, sizeof room->output, room->marks,
+                      sizeof room->marks);
+}
+
+/* How many bytes aren't this one. */
+static uint32_t others(const uint8_t *bytes, size_t len, uint8_t byte)
+{
+    uint32_t count = 0;
+    size_t i;
+    for (i = 0; i < len; i++)
+        count += bytes[i] != byte;
+    return count;
+}
+
+static void prepared_accepted(void)
+{
+    uint8_t image[SIZE];
+    struct room room;
+    struct ne_prepare_result r;
+    make_fixups(image);
+    r = prepare(image, sizeof image, 1, &room);
+    expect("refusal of preparing", r.refusal, 0);
+    expect("record of preparing", r.record, 0);
+    expect("sites of preparing", r.sites, 3);
+    expect("prepared bytes", (uint32_t)memcmp(room.output, done, sizeof done), 0);
+    expect("output past the allocation", others(room.output + 24, 6, 0xa5), 0);
+    expect("marks", (uint32_t)memcmp(room.marks, marked, sizeof marked), 0);
+    expect("marks past the stored bytes", others(room.marks + 20, 5, 0), 0);
+}
+
+static void prepared_refused(const char *what, const uint8_t *image, size_t len, uint32_t number, uint32_t refusal,
+                             uint32_t record)
+{
+    struct room room;
+    struct ne_prepare_result r = prepare(image, len, number, &room);
+    expect(what, r.refusal, refusal);
+    expect(what, r.record, record);
+    expect(what, r.sites, 0);
+    expect(what, others(room.output, sizeof room.output, 0xa5), 0);
+    expect(what, others(room.marks, sizeof room.marks, 0), 0);
+}
+
+static void prepared_records(void)
+{
+    uint8_t image[SIZE];
+    uint8_t *second = image + 144 + 20 + 2 + 8;
+    make_fixups(image);
+    second[2] = 9;
+    prepared_refused("a span that meets another", image, sizeof image, 1, 25, 2);
+    second[2] = 19;
+    prepared_refused("a span outside", image, sizeof image, 1, 24, 2);
+    second[4] = 3;
+    prepared_refused("module 3 of 2", image, sizeof image, 1, 23, 2);
+    second[0] = 4;
+    prepared_refused("a fixup of type 4", image, sizeof image, 1, 22, 2);
+    put_word(image + 128, 0xffff);
+    prepared_refused("stored bytes outside", image, sizeof image, 1, 9, 0);
+}
+
+static void preparing(void)
+{
+    uint8_t image[SIZE];
+    struct room room;
+    struct ne_prepare_result r;
+    make_fixups(image);
+    prepared_accepted();
+    prepared_records();
+    prepared_refused("preparing in an empty image", NULL, 0, 1, 1, 0);
+    prepared_refused("preparing segment 0", image, sizeof image, 0, 8, 0);
+    prepared_refused("preparing segment 2 of 1", image, sizeof image, 2, 8, 0);
+    memset(room.marks, 0x5a, sizeof room.marks);
+    r = ne_prepare(image, sizeof image, 1, NULL, 0, NULL, 0, NULL, 0, room.marks, sizeof room.marks);
+    expect("no lists", r.refusal, 21);
+    expect("marks with no lists", others(room.marks, sizeof room.marks, 0), 0);
+    r = ne_prepare(image, sizeof image, 1, selectors, 1, answers, 2, room.output, 24, NULL, 0);
+    expect("no marks", r.refusal, 21);
+    r = ne_prepare(image, sizeof image, 1, selectors, 1, answers, 2, room.output, 24, room.marks, 20);
+    expect("lists of the exact lengths", r.refusal, 0);
+}
+
+/* The two steps, in this order. */
+static void step_both(const char *what, int first, int second)
+{
+    uint8_t image[SIZE];
+    uint8_t buffer[24] = {0};
+    make_fixups(image);
+    memcpy(buffer, stored, sizeof stored);
+    ne_step(image, sizeof image, fixups[first], answers[first], selectors, 1, buffer, sizeof buffer);
+    ne_step(image, sizeof image, fixups[second], answers[second], selectors, 1, buffer, sizeof buffer);
+    expect(what, (uint32_t)memcmp(buffer, done, sizeof done), 0);
+}
+
+static void steps(void)
+{
+    uint8_t image[SIZE];
+    uint8_t buffer[4] = {0xff, 0xff, 0xff, 0xff};
+    make_fixups(image);
+    step_both("steps in file order", 0, 1);
+    step_both("steps in the other order", 1, 0);
+    ne_step(NULL, 0, fixups[0], 0, selectors, 1, buffer, sizeof buffer);
+    expect("a step in an empty image", others(buffer, sizeof buffer, 0xff), 0);
+    ne_step(image, sizeof image, fixups[0], 0, NULL, 0, buffer, sizeof buffer);
+    expect("a step without selectors", others(buffer, sizeof buffer, 0xff), 0);
+    ne_step(image, sizeof image, fixups[0], 0, selectors, 1, NULL, 0);
+    ne_step(image, sizeof image, fixups[0], 0, selectors, 1, buffer, 3);
+    expect("a step in 3 bytes", others(buffer, sizeof buffer, 0xff), 0);
+    ne_step(image, sizeof image, fixups[0], 0, selectors, 1, buffer, 4);
+    expect("a step in 4 bytes", others(buffer, sizeof buffer, 0xff), 4);
+}
+
 int main(void)
 {
     segments();
@@ -320,5 +468,7 @@ int main(void)
     names_by_bytes();
     module_names();
     resources();
+    preparing();
+    steps();
     return failures != 0;
 }

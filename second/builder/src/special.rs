@@ -5,6 +5,7 @@ mod header;
 mod large;
 mod segments;
 mod tables;
+mod targets;
 
 use crate::assemble::{assemble, Image};
 use crate::description::{Description, Fixup, Segment, Stored, Target, HAS_RECORDS};
@@ -40,6 +41,7 @@ pub fn specials() -> Vec<Special> {
     all.extend(examples::examples());
     all.extend(header::headers());
     all.extend(segments::segments());
+    all.extend(targets::targets());
     all.extend(tables::tables());
     all.extend(large::large());
     all

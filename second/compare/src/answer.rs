@@ -1,18 +1,51 @@
 //! An answer of either program, in one shape.
 
+use reference::Refused;
 use std::fmt;
 
 /// What a call gave for one request.
 #[derive(Clone, Copy, Debug, PartialEq, Eq)]
-pub enum Answer<T> {
+pub enum Answer<T, W = u32> {
     Accepted(T),
-    Refused(u32),
-    /// A refusal whose other values aren't all 0. No call may give this, so it
-    /// equals no answer of the reference.
+    Refused(W),
+    /// A refusal whose other values aren't all 0, or that left something else
+    /// than it may in lent memory. No call may give this, so it equals no
+    /// answer of the reference.
     Unclean {
-        refusal: u32,
+        refusal: W,
         values: T,
     },
+}
+
+/// Why a request is refused: a number, and for preparing a record too.
+pub trait Why: Copy + PartialEq + From<u32> + 'static {
+    fn number(self) -> u32;
+
+    /// As it is printed.
+    fn text(self) -> String;
+}
+
+impl Why for u32 {
+    fn number(self) -> u32 {
+        self
+    }
+
+    fn text(self) -> String {
+        format!("refusal {self}")
+    }
+}
+
+impl Why for Refused {
+    fn number(self) -> u32 {
+        self.number
+    }
+
+    fn text(self) -> String {
+        match self.record {
+            0 => self.number.text(),
+            record => format!("{} at record {record}", self.number.text()),
+        }
+    }
 }
 
 impl<T: PartialEq> Answer<T> {
@@ -27,18 +60,18 @@ impl<T: PartialEq> Answer<T> {
     }
 }
 
-impl<T> Answer<T> {
+impl<T, W: Why> Answer<T, W> {
     /// The refusal's number, or 0.
     pub fn number(&self) -> u32 {
         match self {
             Answer::Accepted(_) => 0,
-            Answer::Refused(refusal) | Answer::Unclean { refusal, .. } => *refusal,
+            Answer::Refused(refusal) | Answer::Unclean { refusal, .. } => refusal.number(),
         }
     }
 }
 
-impl<T> From<Result<T, u32>> for Answer<T> {
-    fn from(result: Result<T, u32>) -> Self {
+impl<T, W> From<Result<T, W>> for Answer<T, W> {
+    fn from(result: Result<T, W>) -> Self {
         match result {
             Ok(values) => Answer::Accepted(values),
             Err(refusal) => Answer::Refused(refusal),
@@ -46,13 +79,13 @@ impl<T> From<Result<T, u32>> for Answer<T> {
     }
 }
 
-impl<T: fmt::Debug> fmt::Display for Answer<T> {
+impl<T: fmt::Debug, W: Why> fmt::Display for Answer<T, W> {
     fn fmt(&self, f: &mut fmt::Formatter<'_>) -> fmt::Result {
         match self {
             Answer::Accepted(values) => write!(f, "{values:?}"),
-            Answer::Refused(refusal) => write!(f, "refusal {refusal}"),
+            Answer::Refused(refusal) => write!(f, "{}", refusal.text()),
             Answer::Unclean { refusal, values } => {
-                write!(f, "refusal {refusal} with {values:?}")
+                write!(f, "{} with {values:?}", refusal.text())
             }
         }
     }

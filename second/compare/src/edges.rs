@@ -5,6 +5,7 @@
 //! every call does first is in `header`; what two calls have in common is in
 //! `names` and `resources`.
 
+mod fixups;
 mod header;
 pub mod judge;
 mod minimal;
@@ -13,12 +14,14 @@ pub mod name_by_bytes;
 pub mod name_by_number;
 mod names;
 pub mod ordinal;
+pub mod prepare;
 pub mod resource_by_number;
 pub mod resource_by_words;
 mod resources;
 pub mod segment;
+pub mod step;
 
-use crate::answer::Answer;
+use crate::answer::{Answer, Why};
 use std::fmt::Debug;
 use tally::Tally;
 
@@ -39,11 +42,11 @@ fn other_numbers() -> Vec<u32> {
 }
 
 /// Counts one edge; both programs must give the expected answer.
-fn demand<T: PartialEq + Debug>(
+fn demand<T: PartialEq + Debug, W: Why>(
     tally: &mut Tally,
     name: &str,
-    expected: &Answer<T>,
-    answers: [(&str, Answer<T>); 2],
+    expected: &Answer<T, W>,
+    answers: [(&str, Answer<T, W>); 2],
 ) {
     let mut held = true;
     for (program, answer) in answers {

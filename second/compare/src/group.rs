@@ -29,7 +29,10 @@ pub fn compare(kind: Kind, calls: &[&dyn Call], options: &Options, seen: &mut Se
         for request in requests(options) {
             let case = image * REQUESTS + request;
             for call in &mut asked {
-                call.ask(kind, options.seed, case, &input, seen);
+                // A case that is asked for alone is always made.
+                if options.only_case.is_some() || call.call.makes(kind, request) {
+                    call.ask(kind, options.seed, case, &input, seen);
+                }
             }
         }
     }

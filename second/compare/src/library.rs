@@ -2,28 +2,53 @@
 //!
 //! All unsafe code is here.
 
-use crate::results::{ModuleResult, NameResult, OrdinalResult, ResourceResult, SegmentResult};
+use crate::results::{
+    ModuleResult, NameResult, OrdinalResult, PrepareResult, ResourceResult, SegmentResult,
+};
 
-/// Bytes that are lent for a call.
+/// Bytes or other numbers that are lent for a call, to be read.
 #[derive(Clone, Copy)]
-pub enum Lent<'a> {
-    Bytes(&'a [u8]),
-    /// No bytes, which may be said to stand at any address.
+pub enum Lent<'a, T = u8> {
+    These(&'a [T]),
+    /// None, which may be said to stand at any address.
     NothingAt(usize),
 }
 
-impl Lent<'_> {
-    fn pointer(self) -> *const u8 {
+impl<T> Lent<'_, T> {
+    fn pointer(&self) -> *const T {
         match self {
-            Lent::Bytes(bytes) => bytes.as_ptr(),
-            Lent::NothingAt(address) => address as *const u8,
+            Lent::These(items) => items.as_ptr(),
+            Lent::NothingAt(address) => *address as *const T,
         }
     }
 
-    fn length(self) -> usize {
+    fn length(&self) -> usize {
         match self {
-            Lent::Bytes(bytes) => bytes.len(),
+            Lent::These(items) => items.len(),
             Lent::NothingAt(_) => 0,
+        }
+    }
+}
+
+/// Bytes that are lent for a call, to be written.
+pub enum Room<'a> {
+    These(&'a mut [u8]),
+    /// None, which may be said to stand at any address.
+    NothingAt(usize),
+}
+
+impl Room<'_> {
+    fn pointer(&mut self) -> *mut u8 {
+        match self {
+            Room::These(bytes) => bytes.as_mut_ptr(),
+            Room::NothingAt(address) => *address as *mut u8,
+        }
+    }
+
+    fn length(&self) -> usize {
+        match self {
+            Room::These(bytes) => bytes.len(),
+            Room::NothingAt(_) => 0,
         }
     }
 }
@@ -55,6 +80,29 @@ extern "C" {
         type_word: u32,
         id_word: u32,
     ) -> ResourceResult;
+    fn ne_prepare(
+        image: *const u8,
+        image_length: usize,
+        number: u32,
+        selectors: *const u16,
+        selectors_length: usize,
+        answers: *const u32,
+        answers_length: usize,
+        output: *mut u8,
+        output_length: usize,
+        marks: *mut u8,
+        marks_length: usize,
+    ) -> PrepareResult;
+    fn ne_step(
+        image: *const u8,
+        image_length: usize,
+        record: *const u8,
+        answer: u32,
+        selectors: *const u16,
+        selectors_length: usize,
+        buffer: *mut u8,
+        buffer_length: usize,
+    );
 }
 
 pub fn segment(image: Lent, number: u32) -> SegmentResult {
@@ -107,5 +155,48 @@ fn by_bytes<T>(function: ByBytes<T>, image: Lent, bytes: Lent) -> T {
             bytes.pointer(),
             bytes.length(),
         )
+    }
+}
+
+pub fn prepare(
+    image: Lent,
+    number: u32,
+    selectors: Lent<u16>,
+    answers: Lent<u32>,
+    mut output: Room,
+    mut marks: Room,
+) -> PrepareResult {
+    // SAFETY: as in `by_number`, for each slice; those that are written are
+    // lent for that and overlap no other.
+    unsafe {
+        ne_prepare(
+            image.pointer(),
+            image.length(),
+            number,
+            selectors.pointer(),
+            selectors.length(),
+            answers.pointer(),
+            answers.length(),
+            output.pointer(),
+            output.length(),
+            marks.pointer(),
+            marks.length(),
+        )
+    }
+}
+
+pub fn step(image: Lent, record: &[u8; 8], answer: u32, selectors: Lent<u16>, mut buffer: Room) {
+    // SAFETY: as in `prepare`, and the record has the 8 bytes that are read.
+    unsafe {
+        ne_step(
+            image.pointer(),
+            image.length(),
+            record.as_ptr(),
+            answer,
+            selectors.pointer(),
+            selectors.length(),
+            buffer.pointer(),
+            buffer.length(),
+        );
     }
 }

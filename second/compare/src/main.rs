@@ -1,13 +1,17 @@
 //! Compares the static library `ne` with the reference.
 //!
 //! Every exported function is called beside its reference on generated, damaged
-//! and random images, and every answer must be equal. Before that, each refusal
-//! is demanded of both at its exact edges, with answers written out by hand.
+//! and random images, and every answer must be equal, and so must all that is
+//! left in lent memory. Where a segment is prepared, its records are done by
+//! steps as well, in many orders, which must give the same bytes. Before that,
+//! each refusal is demanded of both at its exact edges, with answers written out
+//! by hand.
 //! The last line is the count of checks; the exit status is 0 when none failed.
 
 #![deny(unsafe_code)]
 
 mod answer;
+mod bytes;
 mod calls;
 mod difference;
 mod edges;

@@ -11,6 +11,11 @@ pub trait Values: PartialEq + Debug {
     type Fields: Copy;
 
     fn of(fields: Self::Fields) -> Self;
+
+    /// As it is printed beside another that it differs from.
+    fn beside(&self, _other: &Self) -> String {
+        format!("{self:?}")
+    }
 }
 
 /// Declares a result: the refusal, then fields with the names that they have in
@@ -58,3 +63,12 @@ result!("`ne_ordinal`" OrdinalResult of Entry: segment, offset, flag);
 result!("the name queries" NameResult of Name: number, text_at, text_len, ordinal);
 result!("`ne_module`" ModuleResult of Module: text_at, text_len);
 result!("the resource queries" ResourceResult of Resource: type_, id, flags, data_at, data_len);
+
+/// The result of `ne_prepare`. What it stands for depends on lent memory too.
+#[repr(C)]
+#[derive(Clone, Copy, Debug, PartialEq, Eq)]
+pub struct PrepareResult {
+    pub refusal: u32,
+    pub record: u32,
+    pub sites: u32,
+}

@@ -1,6 +1,6 @@
 //! How often each answer was seen, call by call.
 
-use crate::calls::Call;
+use crate::calls::{Amount, Call};
 use std::collections::{BTreeMap, BTreeSet};
 use tally::Tally;
 
@@ -9,6 +9,8 @@ use tally::Tally;
 #[derive(Clone, Debug, Default)]
 pub struct Seen {
     counts: BTreeMap<(&'static str, u32), u64>,
+    /// By call and kind of cases.
+    amounts: BTreeMap<(&'static str, &'static str), u64>,
 }
 
 impl Seen {
@@ -20,8 +22,39 @@ impl Seen {
         self.counts.get(&(call, answer)).copied().unwrap_or(0)
     }
 
-    /// Each answer that a call can give must have been seen, and no other one.
+    /// Counts further cases of a kind.
+    pub fn add(&mut self, call: &'static str, what: &'static str, cases: u64) {
+        *self.amounts.entry((call, what)).or_insert(0) += cases;
+    }
+
+    fn amount(&self, call: &'static str, what: &'static str) -> u64 {
+        self.amounts.get(&(call, what)).copied().unwrap_or(0)
+    }
+
+    /// Each answer that a call can give must have been seen, and no other one;
+    /// and there must be as many cases of each kind as it wants.
     pub fn check(&self, calls: &[&dyn Call]) -> Tally {
+        let mut tally = self.check_answers(calls);
+        tally.add(self.check_amounts(calls));
+        tally
+    }
+
+    fn check_amounts(&self, calls: &[&dyn Call]) -> Tally {
+        let mut tally = Tally::default();
+        for call in calls {
+            for Amount { what, least } in call.amounts() {
+                let (name, amount) = (call.name(), self.amount(call.name(), what));
+                match amount >= least {
+                    true => println!("{name}: {amount} {what}, at least {least}"),
+                    false => println!("FAILED: {name}: {amount} {what}, under {least}"),
+                }
+                tally.count(amount >= least);
+            }
+        }
+        tally
+    }
+
+    fn check_answers(&self, calls: &[&dyn Call]) -> Tally {
         let mut tally = Tally::default();
         for call in calls {
             for answer in call.answers() {

@@ -5,10 +5,12 @@
 mod bundles;
 mod names;
 mod resources;
+mod segments;
 
 pub use bundles::{bundles, Bundle};
 pub use names::{names, Name};
 pub use resources::{resources, Resource};
+pub use segments::segment;
 
 /// The segment count; 0 if there is no such word.
 pub fn segment_count(image: &[u8]) -> u32 {

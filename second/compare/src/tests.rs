@@ -2,8 +2,10 @@
 
 mod cases;
 mod edges;
+mod lent;
 mod noticed;
 mod options;
+mod orders;
 mod reports;
 mod requests;
 mod results;

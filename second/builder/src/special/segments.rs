@@ -1,9 +1,8 @@
-//! Segments and fixups: sectors, lengths, record lists, targets and sites.
+//! Segments and fixups: sectors, lengths, record lists and sites.
 
+use super::targets::with_target;
 use super::{case, internal, one_segment, shorter, with_bytes, Special};
-use crate::description::{
-    Bundle, Description, FixedEntry, Fixup, Put, Stored, Target, ADDITIVE, HAS_RECORDS, ITERATED,
-};
+use crate::description::{Description, Put, Stored, Target, ADDITIVE, HAS_RECORDS, ITERATED};
 use crate::generate::Case;
 use crate::layout::FieldKind;
 
@@ -11,7 +10,6 @@ pub(super) fn segments() -> Vec<Special> {
     let mut all = sectors();
     all.extend(ends());
     all.extend(flags_and_allocation());
-    all.extend(targets());
     all.extend(sites());
     all.push(Special::of("every kind of fixup", every_kind));
     all
@@ -120,78 +118,6 @@ fn flags_and_allocation() -> Vec<Special> {
         }));
     }
     all
-}
-
-/// Records with one additive offset fixup each, some without a target.
-fn targets() -> Vec<Special> {
-    let segment = |number| Target::Segment {
-        number,
-        reserved: 0xEE,
-        offset: 0x0102,
-    };
-    let ordinal = |ordinal| Target::Ordinal {
-        reserved: 0xEE,
-        ordinal,
-    };
-    let by_ordinal = |module| Target::ImportOrdinal {
-        module,
-        ordinal: 0xFFFF,
-    };
-    let by_name = |module, string| Target::ImportName { module, string };
-    let mut all = Vec::new();
-    for (flags, target) in [
-        (0, segment(0)),
-        (0, segment(1)),
-        (0, segment(2)),
-        (0, segment(254)),
-        (0, ordinal(0)),
-        (0, ordinal(1)),
-        (0, ordinal(2)),
-        (0, ordinal(3)),
-        (0, ordinal(4)),
-        (1, by_ordinal(0)),
-        (1, by_ordinal(2)),
-        (1, by_ordinal(3)),
-        (2, by_name(0, 1)),
-        (2, by_name(1, 0)),
-        (2, by_name(1, 1)),
-        (2, by_name(2, 8)),
-        (2, by_name(2, 0xFFFF)),
-        (2, by_name(3, 1)),
-    ] {
-        let name = format!("target {target:?}");
-        all.push(Special::of(name, move || with_target(flags, target)));
-    }
-    all
-}
-
-/// One segment, ordinals 1 (null) to 3, two modules, and strings at 0 (empty),
-/// 1 and 8.
-fn with_target(flags: u8, target: Target) -> Description {
-    let fixup = Fixup {
-        kind: 5,
-        flags: flags | ADDITIVE,
-        site: 4,
-        target,
-    };
-    let mut description = one_segment((0..16).collect(), vec![fixup]);
-    let entry = FixedEntry {
-        flag: 1,
-        offset: 0x0A0B,
-    };
-    description.entries.bundles = vec![
-        Bundle::Null { count: 1 },
-        Bundle::Fixed {
-            segment: 1,
-            entries: vec![entry; 2],
-        },
-    ];
-    description.entries.end = true;
-    description.imported.push(b"");
-    description.imported.push(b"KERNEL");
-    description.imported.push(b"GDI");
-    description.modules = vec![1, 8];
-    description
 }
 
 fn sites() -> Vec<Special> {

@@ -16,6 +16,7 @@ pub struct ModuleQuery;
 impl Query for ModuleQuery {
     type Request = u32;
     type Values = Module;
+    type Why = u32;
     type Result = ModuleResult;
 
     const NAME: &'static str = "ne_module";

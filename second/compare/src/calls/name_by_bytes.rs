@@ -15,6 +15,7 @@ pub struct NameByBytes;
 impl Query for NameByBytes {
     type Request = Text;
     type Values = Name;
+    type Why = u32;
     type Result = NameResult;
 
     const NAME: &'static str = "ne_name_by_bytes";

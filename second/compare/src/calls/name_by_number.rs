@@ -16,6 +16,7 @@ pub struct NameByNumber;
 impl Query for NameByNumber {
     type Request = u32;
     type Values = Name;
+    type Why = u32;
     type Result = NameResult;
 
     const NAME: &'static str = "ne_name_by_number";

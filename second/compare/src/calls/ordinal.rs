@@ -16,6 +16,7 @@ pub struct OrdinalQuery;
 impl Query for OrdinalQuery {
     type Request = u32;
     type Values = Entry;
+    type Why = u32;
     type Result = OrdinalResult;
 
     const NAME: &'static str = "ne_ordinal";

@@ -1,7 +1,7 @@
 //! A query: an exported function that takes an image and a request.
 
-use super::{agree, differing, Call, Request};
-use crate::answer::Answer;
+use super::{agree, differing, Amount, Call, Request};
+use crate::answer::{Answer, Why};
 use crate::difference::Difference;
 use crate::edges::judge::{self, Edges};
 use crate::inputs::Input;
@@ -13,21 +13,27 @@ use tally::Tally;
 
 /// What sets a query apart; [`Call`] follows from it.
 pub trait Query: Sized + 'static {
+    /// What is asked for, and what the memory holds that is lent for it.
     type Request: Request;
 
-    /// The values of an accepted answer.
+    /// The values of an accepted answer, and what it leaves in lent memory.
     type Values: Values;
 
+    type Why: Why;
+
     /// What the exported function returns.
-    type Result: Into<Answer<Self::Values>>;
+    type Result: Into<AnswerOf<Self>>;
 
     const NAME: &'static str;
 
     const ANSWERS: &'static [u32];
 
+    /// Kinds of cases that a whole run must have so many of.
+    const AMOUNTS: &'static [AmountOf<Self>] = &[];
+
     fn exported(image: Lent, request: &Self::Request) -> Self::Result;
 
-    fn reference(image: &[u8], request: &Self::Request) -> Result<Self::Values, u32>;
+    fn reference(image: &[u8], request: &Self::Request) -> Result<Self::Values, Self::Why>;
 
     /// A request that is worth making of the image; they are numbered under
     /// [`REQUESTS`](super::REQUESTS).
@@ -39,6 +45,14 @@ pub trait Query: Sized + 'static {
 
 /// The fields of a query's accepted answer.
 pub type FieldsOf<Q> = <<Q as Query>::Values as Values>::Fields;
+
+pub type AnswerOf<Q> = Answer<<Q as Query>::Values, <Q as Query>::Why>;
+
+/// A kind of cases, by the request and the answer that both programs gave.
+pub struct AmountOf<Q: Query> {
+    pub amount: Amount,
+    pub counts: fn(&Q::Request, &AnswerOf<Q>) -> bool,
+}
 
 /// A function that answers a query.
 pub struct Function<Q: Query> {
@@ -58,12 +72,43 @@ impl<Q: Query> Clone for Function<Q> {
 impl<Q: Query> Function<Q> {
     pub fn exported() -> Self {
         Function {
-            answer: |image, request| Q::exported(Lent::Bytes(image), request),
+            answer: |image, request| Q::exported(Lent::These(image), request),
         }
     }
 
-    pub fn ask(&self, image: &[u8], request: &Q::Request) -> Answer<Q::Values> {
+    pub fn ask(&self, image: &[u8], request: &Q::Request) -> AnswerOf<Q> {
         (self.answer)(image, request).into()
+    }
+
+    /// Asks both programs. An answer that they agree on is noted and given.
+    pub fn compared(
+        &self,
+        image: &[u8],
+        request: &Q::Request,
+        seen: &mut Seen,
+    ) -> Result<AnswerOf<Q>, Difference> {
+        let library = self.ask(image, request);
+        let reference = Q::reference(image, request).into();
+        if !agree(Q::NAME, &library, &reference, seen) {
+            return Err(self.difference(request.clone()));
+        }
+        for kind in Q::AMOUNTS {
+            if (kind.counts)(request, &reference) {
+                seen.add(Q::NAME, kind.amount.what, 1);
+            }
+        }
+        Ok(reference)
+    }
+
+    fn difference(&self, request: Q::Request) -> Difference {
+        let function = *self;
+        Difference {
+            request: request.text(),
+            differ: Box::new(move |image| {
+                let library = function.ask(image, &request);
+                differing(library, Q::reference(image, &request).into())
+            }),
+        }
     }
 }
 
@@ -74,6 +119,10 @@ impl<Q: Query> Call for Function<Q> {
 
     fn answers(&self) -> &'static [u32] {
         Q::ANSWERS
+    }
+
+    fn amounts(&self) -> Vec<Amount> {
+        Q::AMOUNTS.iter().map(|kind| kind.amount).collect()
     }
 
     fn edges(&self) -> Box<dyn Iterator<Item = Tally>> {
@@ -89,19 +138,7 @@ impl<Q: Query> Call for Function<Q> {
         random: &mut Random,
         seen: &mut Seen,
     ) -> Result<(), Difference> {
-        let function = *self;
         let request = Q::worth_asking(input, request, random);
-        let library = function.ask(&input.bytes, &request);
-        let reference = Q::reference(&input.bytes, &request).into();
-        if agree(Q::NAME, &library, &reference, seen) {
-            return Ok(());
-        }
-        Err(Difference {
-            request: request.text(),
-            differ: Box::new(move |image| {
-                let library = function.ask(image, &request);
-                differing(library, Q::reference(image, &request).into())
-            }),
-        })
+        self.compared(&input.bytes, &request, seen).map(|_| ())
     }
 }

@@ -2,7 +2,7 @@
 
 use crate::library::Lent;
 
-/// A number, two words, or a name's bytes.
+/// A number, two words, a name's bytes, or what preparing and the step take.
 pub trait Request: Clone + 'static {
     /// As it is printed.
     fn text(&self) -> String;
@@ -45,7 +45,7 @@ impl Text {
 
     pub fn lent(&self) -> Lent<'_> {
         match self {
-            Text::Bytes(bytes) => Lent::Bytes(bytes),
+            Text::Bytes(bytes) => Lent::These(bytes),
             Text::NothingAt(address) => Lent::NothingAt(*address),
         }
     }

@@ -16,6 +16,7 @@ pub struct ResourceByNumber;
 impl Query for ResourceByNumber {
     type Request = u32;
     type Values = Resource;
+    type Why = u32;
     type Result = ResourceResult;
 
     const NAME: &'static str = "ne_resource_by_number";

@@ -15,6 +15,7 @@ pub struct ResourceByWords;
 impl Query for ResourceByWords {
     type Request = Words;
     type Values = Resource;
+    type Why = u32;
     type Result = ResourceResult;
 
     const NAME: &'static str = "ne_resource_by_words";

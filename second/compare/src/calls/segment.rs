@@ -16,6 +16,7 @@ pub struct SegmentQuery;
 impl Query for SegmentQuery {
     type Request = u32;
     type Values = Segment;
+    type Why = u32;
     type Result = SegmentResult;
 
     const NAME: &'static str = "ne_segment";

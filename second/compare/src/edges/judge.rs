@@ -3,7 +3,7 @@
 use super::demand;
 use super::minimal::Minimal;
 use crate::answer::Answer;
-use crate::calls::{FieldsOf, Function, Query};
+use crate::calls::{AnswerOf, FieldsOf, Function, Query};
 use crate::library::Lent;
 use crate::results::Values;
 use tally::Tally;
@@ -37,19 +37,19 @@ impl<Q: Query> Judge<Q> {
         fields: FieldsOf<Q>,
     ) {
         let expected = Answer::Accepted(Q::Values::of(fields));
-        self.both(name, image, &request, &expected);
+        self.expects(name, image, &request, &expected);
     }
 
     pub fn refuses(&mut self, name: &str, image: &Minimal, request: Q::Request, refusal: u32) {
-        self.both(name, image, &request, &Answer::Refused(refusal));
+        self.expects(name, image, &request, &Answer::Refused(refusal.into()));
     }
 
-    fn both(
+    pub fn expects(
         &mut self,
         name: &str,
         image: &Minimal,
         request: &Q::Request,
-        expected: &Answer<Q::Values>,
+        expected: &AnswerOf<Q>,
     ) {
         let bytes = image.bytes();
         let answers = [
@@ -59,7 +59,6 @@ impl<Q: Query> Judge<Q> {
         demand(&mut self.tally, name, expected, answers);
     }
 
-    /// An image of 0 bytes, which the library may be handed at any address.
     pub fn refuses_nothing_at(
         &mut self,
         name: &str,
@@ -67,12 +66,24 @@ impl<Q: Query> Judge<Q> {
         request: &Q::Request,
         refusal: u32,
     ) {
+        let expected = Answer::Refused(refusal.into());
+        self.expects_of_nothing_at(name, address, request, &expected);
+    }
+
+    /// An image of 0 bytes, which the library may be handed at any address.
+    pub fn expects_of_nothing_at(
+        &mut self,
+        name: &str,
+        address: usize,
+        request: &Q::Request,
+        expected: &AnswerOf<Q>,
+    ) {
         let library = Q::exported(Lent::NothingAt(address), request);
         let answers = [
             ("library", library.into()),
             ("reference", Q::reference(&[], request).into()),
         ];
-        demand(&mut self.tally, name, &Answer::Refused(refusal), answers);
+        demand(&mut self.tally, name, expected, answers);
     }
 }
 

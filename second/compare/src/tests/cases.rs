@@ -35,6 +35,7 @@ fn the_right_ones_have_no_differences() {
 #[test]
 fn every_wrong_one_is_found() {
     let all = wrong::rarely().into_iter().chain(wrong::at_an_edge());
+    let all = all.chain(wrong::in_some_order());
     let mut hidden: Vec<_> = all.map(|(name, call)| (name, Noticed::new(call))).collect();
     // The images of a kind are made once for all calls that are still hidden.
     for kind in [Kind::Sound, Kind::Damaged, Kind::RandomBytes, Kind::Special] {

@@ -1,9 +1,9 @@
 //! A call that remembers whether it ever differed, and isn't asked again then.
 //! It reports no difference, since the reports of many calls take long.
 
-use crate::calls::Call;
+use crate::calls::{Amount, Call};
 use crate::difference::Difference;
-use crate::inputs::Input;
+use crate::inputs::{Input, Kind};
 use crate::seen::Seen;
 use builder::Random;
 use std::cell::Cell;
@@ -34,6 +34,14 @@ impl Call for Noticed {
 
     fn answers(&self) -> &'static [u32] {
         self.call.answers()
+    }
+
+    fn amounts(&self) -> Vec<Amount> {
+        self.call.amounts()
+    }
+
+    fn makes(&self, kind: Kind, request: u64) -> bool {
+        self.call.makes(kind, request)
     }
 
     fn edges(&self) -> Box<dyn Iterator<Item = Tally>> {

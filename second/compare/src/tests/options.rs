@@ -1,8 +1,9 @@
 //! The command line, what it runs, and the last line.
 
-use super::wrong::ordinal;
 use super::wrong::segment::{call, refusing, right};
+use super::wrong::{ordinal, prepare};
 use crate::calls::Call;
+use crate::inputs::Kind;
 use crate::options::Options;
 use crate::run;
 use tally::Tally;
@@ -87,6 +88,19 @@ fn a_call_is_run_alone() {
     let edges = |calls: &[Box<dyn Call>]| run_all(calls, "--only edges").0;
     let alone = edges(&[segment()]) + edges(&[ordinal()]);
     assert_eq!(edges(&both), alone);
+}
+
+/// Alone it is made even where a whole run leaves it out.
+#[test]
+fn a_case_that_is_left_out_is_run_alone() {
+    let preparing = || Box::new(prepare::call(prepare::right));
+    assert!(!preparing().makes(Kind::Systematic, 1));
+    assert_eq!(run(preparing(), "--only systematic --only-case 1"), (1, 0));
+    let made = |kind| (0..8).filter(move |request| preparing().makes(kind, *request));
+    assert_eq!(made(Kind::Systematic).collect::<Vec<u64>>(), [0, 2, 4]);
+    for kind in [Kind::Sound, Kind::Damaged, Kind::RandomBytes, Kind::Special] {
+        assert_eq!(made(kind).count(), 8, "{kind:?}");
+    }
 }
 
 #[test]

@@ -1,14 +1,19 @@
 //! The report of a difference.
 
 use super::wrong::segment::{call, rare_start, right, unclean};
-use crate::calls::{Call, Function, SegmentQuery, REQUESTS};
+use super::wrong::{self, prepare, step};
+use crate::calls::{Call, REQUESTS};
 use crate::difference::{Difference, Place};
 use crate::inputs::{Input, Kind};
 use crate::seen::Seen;
 use crate::streams::stream;
 
 /// The first difference among the sound images.
-fn first(call: Function<SegmentQuery>) -> Option<(Difference, Input)> {
+fn first(call: impl Call) -> Option<(Difference, Input)> {
+    first_of(&call)
+}
+
+fn first_of(call: &dyn Call) -> Option<(Difference, Input)> {
     let images = Kind::Sound.inputs(5, 0..20_000);
     images.zip(0..).find_map(|(input, number)| {
         (0..REQUESTS).find_map(|request| {
@@ -90,4 +95,33 @@ fn a_long_image_is_not_printed_whole() {
     let report = always.report(&place(), &image);
     assert!(report.lines().count() < 450);
     assert!(report.contains("length 100000"));
+}
+
+/// Every kind of difference in lent memory can be told from its report.
+#[test]
+fn reports_of_lent_memory() {
+    let (difference, input) = first(prepare::call(prepare::rare_byte)).expect("a difference");
+    let answers = (difference.differ)(&input.bytes).expect("a difference");
+    assert!(answers.library.starts_with("6 sites, output "));
+    assert!(answers.library.ends_with("marks as the other"));
+    assert_ne!(answers.library, answers.reference);
+    let (difference, input) = first(step::call(step::rare_byte)).expect("a difference");
+    let answers = (difference.differ)(&input.bytes).expect("a difference");
+    assert!(answers.library.contains(" at 16, from 0 on ["));
+    assert_ne!(answers.library, answers.reference);
+}
+
+/// An order in which the steps give other bytes is reported, and its image is
+/// shortened like any other.
+#[test]
+fn reports_of_orders() {
+    for (name, call) in wrong::in_some_order().into_iter().take(3) {
+        let (difference, input) = first_of(call.as_ref()).expect(name);
+        assert!(difference.request.ends_with("then its records by steps"));
+        let short = difference.shortened(&input.bytes);
+        assert!(short.len() <= input.bytes.len(), "{name}");
+        let answers = (difference.differ)(&short).expect("still a difference");
+        assert!(answers.library.starts_with("steps over records "), "{name}");
+        assert!(answers.reference.starts_with("prepared are "), "{name}");
+    }
 }

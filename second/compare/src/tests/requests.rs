@@ -1,6 +1,8 @@
 //! What is asked for.
 
 mod numbers;
+mod preparing;
+mod stepping;
 mod texts;
 mod words;
 

@@ -3,7 +3,7 @@
 use super::wrong::{module, names, ordinal, resources, segment};
 use crate::answer::Answer;
 use crate::results::{
-    ModuleResult, NameResult, OrdinalResult, ResourceResult, SegmentResult, Values,
+    ModuleResult, NameResult, OrdinalResult, PrepareResult, ResourceResult, SegmentResult, Values,
 };
 use reference::{Entry, Module, Name, Resource, Segment};
 use std::fmt::Debug;
@@ -98,6 +98,14 @@ fn a_modules_fields_keep_their_names() {
     };
     let offsets = offsets!(ModuleResult: refusal, text_at, text_len);
     stands_for(result, module, [1, 2], offsets);
+}
+
+/// What it stands for is in `lent`.
+#[test]
+fn a_prepared_segments_fields_keep_their_places() {
+    let offsets = offsets!(PrepareResult: refusal, record, sites);
+    assert_eq!(offsets, &[0, 4, 8]);
+    assert_eq!(size_of::<PrepareResult>(), 12);
 }
 
 #[test]

@@ -1,7 +1,7 @@
 //! The answers that must be reached.
 
-use super::wrong::ordinal;
 use super::wrong::segment::{call, right};
+use super::wrong::{ordinal, prepare, step};
 use crate::calls::{Call, Function, SegmentQuery};
 use crate::seen::Seen;
 
@@ -78,4 +78,45 @@ fn an_answer_that_a_call_cannot_give_has_no_number() {
     // The segment's 12 answers and one of the ordinal's were seen.
     let tally = seen.check(&[&segment(), &ordinal]);
     assert_eq!((tally.passed(), tally.failed()), (13, 11));
+}
+
+/// All answers of a call, and of each kind of cases as many as are wanted, but
+/// for one kind that has one case less.
+fn with_amounts(call: &dyn Call, short: Option<usize>) -> Seen {
+    let mut seen = Seen::default();
+    for answer in call.answers() {
+        seen.note(call.name(), *answer);
+    }
+    for (index, amount) in call.amounts().iter().enumerate() {
+        let cases = amount.least - u64::from(short == Some(index));
+        seen.add(call.name(), amount.what, cases - 1);
+        seen.add(call.name(), amount.what, 1);
+    }
+    seen
+}
+
+#[test]
+fn amounts_that_are_too_small_fail() {
+    let (preparing, stepping) = (prepare::call(prepare::right), step::call(step::right));
+    let calls: [&dyn Call; 2] = [&preparing, &stepping];
+    for call in calls {
+        let (answers, amounts) = (call.answers().len(), call.amounts().len());
+        let checks = (answers + amounts) as u32;
+        assert!(amounts > 1, "{}", call.name());
+        let tally = with_amounts(call, None).check(&[call]);
+        assert_eq!((tally.passed(), tally.failed()), (checks, 0));
+        for short in 0..amounts {
+            let tally = with_amounts(call, Some(short)).check(&[call]);
+            assert_eq!((tally.passed(), tally.failed()), (checks - 1, 1));
+        }
+    }
+}
+
+#[test]
+fn preparations_have_their_least_amounts() {
+    let amounts = prepare::call(prepare::right).amounts();
+    let least = |what: &str| amounts.iter().find(|amount| amount.what == what);
+    for what in ["accepted preparations", "refused preparations"] {
+        assert_eq!(least(what).map(|amount| amount.least), Some(50_000));
+    }
 }

@@ -1,14 +1,17 @@
 //! Queries that are wrong in one respect, to be found out.
 
+mod fixups;
 mod header;
 pub mod module;
 pub mod names;
 pub mod ordinal;
+pub mod prepare;
 pub mod resources;
 pub mod segment;
+pub mod step;
 
 use crate::calls::{
-    Call, ModuleQuery, NameByBytes, NameByNumber, OrdinalQuery, Query, ResourceByNumber,
+    Call, ModuleQuery, NameByBytes, NameByNumber, OrdinalQuery, Prepare, Query, ResourceByNumber,
     ResourceByWords, SegmentQuery,
 };
 
@@ -38,6 +41,10 @@ pub fn right() -> Vec<Named> {
             "words, looked up",
             resources::by_words(resources::looked_up_words),
         ),
+        named("preparing", prepare::call(prepare::right)),
+        named("preparing, worked", prepare::call(prepare::worked)),
+        named("step", step::call(step::right)),
+        named("step, worked", step::call(step::worked)),
     ]
 }
 
@@ -53,8 +60,27 @@ pub fn at_an_edge() -> Vec<Named> {
     all.extend(by_number.map(|(name, query)| named(name, resources::by_number(query))));
     let by_words = resources::WRONG_BY_WORDS;
     all.extend(by_words.map(|(name, query)| named(name, resources::by_words(query))));
+    all.extend(wrong_preparing());
+    all.extend(wrong_steps());
     all.extend(wrong_headers());
     all
+}
+
+fn wrong_preparing() -> Vec<Named> {
+    let mut all = Vec::new();
+    all.extend(prepare::WRONG);
+    all.extend(prepare::WRONG_FIXUPS);
+    all.extend(prepare::WRONG_WORK);
+    all.extend(prepare::WRONG_ORDER);
+    all.into_iter()
+        .map(|(name, answer)| named(name, prepare::call(answer)))
+        .collect()
+}
+
+fn wrong_steps() -> Vec<Named> {
+    let all = step::WRONG.into_iter().chain(step::WRONG_APART);
+    all.map(|(name, answer, _)| named(name, step::call(answer)))
+        .collect()
 }
 
 fn wrong_headers() -> Vec<Named> {
@@ -66,12 +92,13 @@ fn wrong_headers() -> Vec<Named> {
     add_wrong_headers::<ModuleQuery>(&mut all);
     add_wrong_headers::<ResourceByNumber>(&mut all);
     add_wrong_headers::<ResourceByWords>(&mut all);
+    add_wrong_headers::<Prepare>(&mut all);
     all
 }
 
 fn add_wrong_headers<Q: Query>(all: &mut Vec<Named>)
 where
-    Q::Result: From<Result<Q::Values, u32>>,
+    Q::Result: From<Result<Q::Values, Q::Why>>,
 {
     let wrong = header::functions::<Q>().into_iter();
     all.extend(wrong.map(|(name, function)| named(name, function)));
@@ -87,7 +114,19 @@ pub fn rarely() -> Vec<Named> {
         named("rare length", module::call(module::rare_length)),
         named("rare flags", resources::by_number(resources::rare_flags)),
         named("rare words", resources::by_words(resources::rare_miss)),
+        named("rare count", prepare::call(prepare::rare_count)),
+        named("rare byte", prepare::call(prepare::rare_byte)),
+        named("rare step", step::call(step::rare_byte)),
     ]
+}
+
+/// Steps that are wrong beside right preparing, which the orders of a segment's
+/// records show.
+pub fn in_some_order() -> Vec<Named> {
+    let wrong = step::WRONG.into_iter();
+    wrong
+        .map(|(name, _, step)| named(name, step::in_every_order(step)))
+        .collect()
 }
 
 fn named(name: &'static str, call: impl Call + 'static) -> Named {

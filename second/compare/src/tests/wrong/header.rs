@@ -8,7 +8,7 @@ type Answer<Q> = fn(&[u8], &<Q as Query>::Request) -> <Q as Query>::Result;
 /// They are right about an image in which the check's field is made good.
 pub fn functions<Q: Query>() -> Vec<(&'static str, Function<Q>)>
 where
-    Q::Result: From<Result<Q::Values, u32>>,
+    Q::Result: From<Result<Q::Values, Q::Why>>,
 {
     let wrong = headers::<Q>().into_iter().chain(tables::<Q>());
     wrong
@@ -19,7 +19,7 @@ where
 /// Refusals 2 to 6.
 fn headers<Q: Query>() -> [(&'static str, Answer<Q>); 5]
 where
-    Q::Result: From<Result<Q::Values, u32>>,
+    Q::Result: From<Result<Q::Values, Q::Why>>,
 {
     [
         ("2 left out", |image, request| {
@@ -46,7 +46,7 @@ where
 /// Refusal 7.
 fn tables<Q: Query>() -> [(&'static str, Answer<Q>); 4]
 where
-    Q::Result: From<Result<Q::Values, u32>>,
+    Q::Result: From<Result<Q::Values, Q::Why>>,
 {
     [
         ("7 left out for segments", |image, request| {
@@ -81,7 +81,7 @@ fn good<Q: Query>(
     held: &[u8],
 ) -> Q::Result
 where
-    Q::Result: From<Result<Q::Values, u32>>,
+    Q::Result: From<Result<Q::Values, Q::Why>>,
 {
     let end = at.saturating_add(held.len());
     if !put || end > image.len() || image.len() > 16_777_216 {
@@ -100,7 +100,7 @@ fn without<Q: Query>(
     each: usize,
 ) -> Q::Result
 where
-    Q::Result: From<Result<Q::Values, u32>>,
+    Q::Result: From<Result<Q::Values, Q::Why>>,
 {
     let place = stated::place(image, place_at).unwrap_or(0);
     let count = stated::ne_word(image, count_at).unwrap_or(0) as usize;
