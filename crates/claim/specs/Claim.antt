@@ -20,8 +20,11 @@ abbrev pub claimed : ℕ → List ℕ → ℕ → List ℕ
 claimed width marks at = sets marks at (replicate width 1)
 
 -- What claiming a span answers: "span outside", then "span meets an earlier one".
+abbrev pub insideOf : List ℕ → ℕ → ℕ → Answer
+insideOf marks at width = cond (taken width marks at) Taken Claimed
+
 unfoldable pub claimOf : List ℕ → ℕ → ℕ → Answer
-claimOf marks at width = cond (ltb (length marks) (at + width)) Outside (cond (taken width marks at) Taken Claimed)
+claimOf marks at width = cond (ltb (length marks) (at + width)) Outside (insideOf marks at width)
 
 -- The marks after that answer.
 abbrev pub marksAfter : Answer → List ℕ → ℕ → ℕ → List ℕ

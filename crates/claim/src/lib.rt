@@ -1,5 +1,6 @@
 // Marks: a byte for each byte of a segment, which is not 0 where a span has the byte. A span is claimed in them.
 mod bytes;
+mod inside;
 
 ghost use mathlib.Core.Path.{_≡_};
 ghost use Rattle.claim.specs.Claim.{claimOf, marksAfter};
@@ -13,7 +14,8 @@ pub enum Answer {
     Taken,
 }
 
-// Claims the span of `width` bytes from the place `at` on: its bytes are marked, unless it is refused.
+// Claims the span of `width` bytes from the place `at` on: its bytes are marked, unless it is refused. Words and pairs of words
+// are looked at as one number each.
 pub fn span(marks: &mut [u8], at: u32, width: u8) -> Answer
     ensures { λ r. ⌜ (r ≡ claimOf (now (marks .entry)) at width) × (now (marks .exit) ≡ marksAfter r (now (marks .entry)) at width) ⌝ }
 {
@@ -22,9 +24,11 @@ pub fn span(marks: &mut [u8], at: u32, width: u8) -> Answer
     if marks.len() < end {
         return Answer::Outside;
     }
-    if bytes::taken(marks, start, end) {
-        return Answer::Taken;
+    if width == 2 {
+        return inside::word(marks, start);
     }
-    bytes::mark(marks, start, end);
-    Answer::Claimed
+    if width == 4 {
+        return inside::dword(marks, start);
+    }
+    inside::any(marks, start, end)
 }

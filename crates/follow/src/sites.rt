@@ -63,20 +63,23 @@ fn one(
     }
 }
 
-// A site whose span is claimed: 26, or it is written and tells the next.
+// A site whose span is claimed: 26, or it is written and tells the next. A chained span has two bytes at least, so that its word needs
+// no test.
 fn claimed(stored: &[u8], f: Fixup, at: u16, done: u32, bytes: &mut [u8]) -> Site
-    requires { ⌜ at + widthOf (f .kind) (f .additive) ≤ length (now bytes) ⌝ }
+    requires { ⌜ (at + widthOf (f .kind) (f .additive) ≤ length (now stored)) × (length (now bytes) ≡ length (now stored)) ⌝ }
     ensures { λ r. ⌜ ((marks : List ℕ) → afterSite (now (stored .entry)) f done r marks (now (bytes .exit)) ≡ claimedPass (fuel done) (now (stored .entry)) f at done marks (now (bytes .entry))) × Going done r ⌝ }
 {
     if 65536 <= done {
         return Site::Refused(Refusal::SitesOver);
     }
     let place = at as usize;
-    let word = le::word(stored, place);
-    patch::put(f, le::byte(stored, place), word, bytes, place);
+    let byte = le::byte(stored, place);
     if f.additive {
+        patch::put(f, byte, le::word(stored, place), bytes, place);
         return Site::Last;
     }
+    let word = le::inside::word(stored, place);
+    patch::put(f, byte, word, bytes, place);
     if word == 0xffff {
         return Site::Last;
     }

@@ -1,7 +1,8 @@
 // Little-endian numbers out of a slice of bytes, parts of a slice, and the two ways in which one is filled (`slice`).
 //
 // Every reader answers for every place: a byte past the end counts as 0. So no caller has to show that a place lies
-// inside, and a check of a place can be stated by itself.
+// inside, and a check of a place can be stated by itself. `inside` has those that need no test.
+pub mod inside;
 pub mod slice;
 
 ghost use mathlib.Core.Path.{_≡_};

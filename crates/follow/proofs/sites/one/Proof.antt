@@ -34,7 +34,7 @@ claimed-requires c κs =
     let is = c .before .enum-told3 .given .1 in
     let says = rw (start .pre .1) at (told (now (a .marks)) (a .at) (a .width) _ (sym is ∙ span .ensures .0)) in
     let inside : a .at + widthOf (a .f .kind) (a .f .additive) ≤ length (now (a .marks)) = ltb-false _ _ (says .0) in
-    omega (arith, inside, start .pre .0 .0, start .pre .0 .1)
+    (omega (arith, inside, start .pre .0 .0), start .pre .0 .1)
 
 same-length : tie.Need-same-length
 same-length c = search needs
