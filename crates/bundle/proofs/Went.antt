@@ -2,15 +2,17 @@
 --     step-past, step-end, step-bundle   what stands at a place, from what its bytes are
 --     went                               what a step that goes on says about its bundle
 --     entries-sound                      no entry of that bundle is unsound
+--     head-next, head-end                the head of that bundle, and where the table ends
+--     head-past                          past the table there is none
 -- Assumes nothing.
 use mathlib.Core.Path.{_≡_, refl, ap}
 use mathlib.Core.Bool.{Bool, true, false}
 use mathlib.Core.List.{List}
 use Prim.Native.Nat.{ℕ, _+_, _*_, _≤_, _<_}
 use native.Mathlib.Omega.{arith}
-use borrow.Author.Tests.{lt-ltb, le-ltb, eq-eqb, ne-eqb, ltb-false, eqb-false}
+use borrow.Author.Tests.{lt-ltb, le-ltb, eq-eqb, ne-eqb, ltb-false, eqb-true, eqb-false}
 use lib.Dec.{ltb, eqb}
-use lib.ListN.{length}
+use lib.ListN.{length, List·getD-eq-default}
 use Rattle.checks.proofs.Impossible.{never}
 use Rattle.le.specs.Number.{byteAt}
 use Rattle.refusal.specs.declared.Refusal.the-variants.{EntryTableEnds}
@@ -19,7 +21,7 @@ use Rattle.checks.proofs.Checks.{passed, answered}
 use Rattle.bundle.specs.declared.Bundle.{Bundle}
 use Rattle.bundle.specs.declared.Step.{Step}
 use Rattle.bundle.specs.declared.Step.the-variants.{Next, End, Refused}
-use Rattle.bundle.specs.Bundle.{widthOf, stepOf, bundleAt, bundleChecks, unsoundFrom}
+use Rattle.bundle.specs.Bundle.{widthOf, headOf, stepOf, bundleAt, bundleChecks, unsoundFrom}
 
 is-refusal : Step → Bool
 is-refusal (Next b) = false
@@ -91,3 +93,28 @@ module _ (table : List ℕ) (segments at used : ℕ) where
   pub entries-sound : (b : Bundle) → stepOf table segments at used ≡ Next b → unsoundFrom (b .count) table segments (b .kind) (b .at) ≡ false
   unfolding bundleChecks
   entries-sound b e = let c = checked b e in rw (c .0) (c .2 .1 .1 .1 .0)
+
+  pub head-next : (b : Bundle) → stepOf table segments at used ≡ Next b → headOf table at ≡ record { count = b .count; kind = b .kind }
+  unfolding headOf bundleAt
+  head-next b e = rw (went b e .is)
+
+  pub head-past : length table ≤ at → headOf table at .count ≡ 0
+  unfolding headOf
+  head-past past = List·getD-eq-default table 0 past
+
+  pub head-end : stepOf table segments at used ≡ End → headOf table at .count ≡ 0
+  unfolding headOf stepOf is-refusal
+  head-end e = go (eqb (length table) 0) (ltb (length table) (at + 1)) (eqb (byteAt table at) 0) refl refl refl
+    where
+      go : (empty missing none : Bool) → eqb (length table) 0 ≡ empty → ltb (length table) (at + 1) ≡ missing → eqb (byteAt table at) 0 ≡ none → byteAt table at ≡ 0
+      go empty missing true p q r = eqb-true (byteAt table at) 0 r
+      go true missing false p q r =
+          let none = eqb-true (length table) 0 p in
+          let past : length table ≤ at = omega arith in
+          List·getD-eq-default table 0 past
+      go false true false p q r = let z : Refused EntryTableEnds ≡ End = rw (p, q) at e in never cc
+      go false false false p q r =
+          let here = bundleAt table at used in
+          let found : decide Refused (bundleChecks table segments here) (Next here) ≡ End = rw (p, q, r) at e in
+          let answer = answered Refused is-refusal (λ why. refl) (bundleChecks table segments here) (Next here) (ap is-refusal found) in
+          never cc
