@@ -3,14 +3,14 @@
 --     went                               what a step that goes on says about its bundle
 --     entries-sound                      no entry of that bundle is unsound
 --     head-next, head-end                the head of that bundle, and where the table ends
---     head-past                          past the table there is none
+--     head-inside                        a head with a count lies inside the table
 -- Assumes nothing.
 use mathlib.Core.Path.{_≡_, refl, ap}
 use mathlib.Core.Bool.{Bool, true, false}
 use mathlib.Core.List.{List}
 use Prim.Native.Nat.{ℕ, _+_, _*_, _≤_, _<_}
 use native.Mathlib.Omega.{arith}
-use borrow.Author.Tests.{lt-ltb, le-ltb, eq-eqb, ne-eqb, ltb-false, eqb-true, eqb-false}
+use borrow.Author.Tests.{lt-ltb, le-ltb, eq-eqb, ne-eqb, ltb-true, ltb-false, eqb-true, eqb-false}
 use lib.Dec.{ltb, eqb}
 use lib.ListN.{length, List·getD-eq-default}
 use Rattle.checks.proofs.Impossible.{never}
@@ -38,6 +38,18 @@ pub record Went (table : List ℕ) (at used : ℕ) (b : Bundle) : Type 0 where
   pub room : b .at ≤ b .end
   pub size : b .end ≡ b .at + widthOf (b .kind) * b .count
   pub end : b .end ≤ length table
+
+-- A byte past the table counts as 0.
+past : (table : List ℕ) (at : ℕ) → length table ≤ at → byteAt table at ≡ 0
+past table at h = List·getD-eq-default table 0 h
+
+pub head-inside : (table : List ℕ) (at : ℕ) → (headOf table at .count ≡ 0 → ⊥) → at < length table
+unfolding headOf
+head-inside table at some = go (ltb at (length table)) refl
+  where
+    go : (inside : Bool) → ltb at (length table) ≡ inside → at < length table
+    go true e = ltb-true at (length table) e
+    go false e = absurd (some (past table at (ltb-false at (length table) e)))
 
 module _ (table : List ℕ) (segments at used : ℕ) where
   pub step-past : 0 < length table → length table ≤ at → stepOf table segments at used ≡ Refused EntryTableEnds
@@ -98,10 +110,6 @@ module _ (table : List ℕ) (segments at used : ℕ) where
   unfolding headOf bundleAt
   head-next b e = rw (went b e .is)
 
-  pub head-past : length table ≤ at → headOf table at .count ≡ 0
-  unfolding headOf
-  head-past past = List·getD-eq-default table 0 past
-
   pub head-end : stepOf table segments at used ≡ End → headOf table at .count ≡ 0
   unfolding headOf stepOf is-refusal
   head-end e = go (eqb (length table) 0) (ltb (length table) (at + 1)) (eqb (byteAt table at) 0) refl refl refl
@@ -110,8 +118,7 @@ module _ (table : List ℕ) (segments at used : ℕ) where
       go empty missing true p q r = eqb-true (byteAt table at) 0 r
       go true missing false p q r =
           let none = eqb-true (length table) 0 p in
-          let past : length table ≤ at = omega arith in
-          List·getD-eq-default table 0 past
+          past table at (omega arith)
       go false true false p q r = let z : Refused EntryTableEnds ≡ End = rw (p, q) at e in never cc
       go false false false p q r =
           let here = bundleAt table at used in
