@@ -37,7 +37,9 @@ end-below : (c : tie.Else3 Inv-loop μ-loop) → c .before .width .result * c .b
 end-below c = offset-below (c .before .width .result) (c .before .before .before .head-at .result .count) (c .before .width .ensures .1) (omega arith)
 
 returns : tie.Need-returns Inv-loop μ-loop
-returns c = λ segments bundles sound. rw (c .if1 .taken, none-is-0 bundles)
+returns c =
+    let zero : c .before .before .args .number ≡ 0 = c .if1 .taken in
+    λ segments bundles sound. rw (zero, none-is-0 bundles)
 
 sub-left : tie.Need-sub-left Inv-loop μ-loop
 sub-left c = search needs
