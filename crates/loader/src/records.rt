@@ -31,7 +31,8 @@ pub fn all(
     let mut sites = 0;
     while index < s.records {
         let import = answers[index as usize];
-        let action = target::action(image, h, true, selectors, import, target::record(list, index));
+        let record = target::record(list, index);
+        let action = target::action(image, h, true, selectors, import, record);
         let answer = follow::action(stored, action, sites, marks, bytes);
         match answer {
             follow::Answer::Halted(why) => {

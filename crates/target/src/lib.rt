@@ -35,7 +35,10 @@ pub fn action(
     let typed = typed(r.kind);
     match typed {
         Typed::Unknown => Action::Refuse(Refusal::FixupType),
-        Typed::Known(kind) => to_target(selectors, answer, r, kind, of_record(image, h, checked, r)),
+        Typed::Known(kind) => {
+            let target = of_record(image, h, checked, r);
+            to_target(selectors, answer, r, kind, target)
+        }
     }
 }
 
