@@ -2,6 +2,7 @@
 mod steps;
 
 use refusal::Refusal;
+pub use steps::head_at;
 pub use steps::next;
 ghost use mathlib.Core.Path.{_≡_};
 ghost use Prim.Native.Nat.{_≤_};
@@ -22,6 +23,12 @@ pub struct Bundle {
     // The places of its first entry and of the next bundle, counted from the table's start.
     pub at: usize,
     pub end: usize,
+}
+
+// The two bytes in front of a bundle's entries. A count of 0 ends the table.
+pub struct Head {
+    pub count: u32,
+    pub kind: Kind,
 }
 
 // What stands at a place of the table: a bundle, the end byte, or why the table is unsound here.

@@ -1,5 +1,6 @@
 // The walk's step: the bundle at a place, with its checks in document 01's order.
 use crate::Bundle;
+use crate::Head;
 use crate::Kind;
 use crate::Step;
 use crate::width;
@@ -7,7 +8,7 @@ use refusal::Refusal;
 ghost use mathlib.Core.Path.{_≡_};
 ghost use Prim.Native.Nat.{_+_, _*_, _≤_};
 ghost use lib.ListN.{length};
-ghost use Rattle.bundle.specs.Bundle.{widthOf, kindOf, entryUnsound, unsoundFrom, stepOf};
+ghost use Rattle.bundle.specs.Bundle.{widthOf, kindOf, headOf, entryUnsound, unsoundFrom, stepOf};
 
 // What a segment byte says.
 fn kind(segment: u8) -> Kind
@@ -17,6 +18,22 @@ fn kind(segment: u8) -> Kind
         0 => Kind::Null,
         255 => Kind::Movable,
         1..=254 => Kind::Fixed(segment),
+    }
+}
+
+// The head of the bundle at a place of the table, for whoever knows that the table is sound: nothing is checked.
+pub fn head_at(table: &[u8], at: usize) -> Head
+    ensures { λ r. ⌜ r ≡ headOf (now (table .entry)) at ⌝ }
+{
+    if table.len() <= at {
+        return Head {
+            count: 0,
+            kind: Kind::Null,
+        };
+    }
+    Head {
+        count: le::byte(table, at) as u32,
+        kind: kind(le::byte(table, at + 1)),
     }
 }
 

@@ -1,10 +1,12 @@
--- The laws of the ordinals that a bundle covers.
+-- The laws of the ordinals that a bundle covers, and of their entries' places.
 -- Assumes nothing.
 use mathlib.Core.Path.{_≡_, refl}
 use mathlib.Core.Bool.{Bool, true, false, _&&_}
-use Prim.Native.Nat.{ℕ, _+_, _≤_, _<_}
+use Prim.Native.Nat.{ℕ, _+_, _*_, _^_, _≤_, _<_}
+use native.Mathlib.Omega.{arith}
 use borrow.Author.Tests.{ltb-true, leb-true}
 use lib.Dec.{ltb, leb}
+use Rattle.le.proofs.Product.{product-below}
 use Rattle.checks.proofs.Impossible.{never}
 use Rattle.bundle.specs.declared.Bundle.{Bundle}
 use Rattle.entry.specs.Table.{covers}
@@ -17,3 +19,7 @@ covered b number e = go (ltb (b .used) number) refl e
     go false q f =
         let z : false ≡ true = rw q at f in
         never cc
+
+-- An entry has at most 6 bytes, and an ordinal 32 bits.
+pub offset-below : (width index : ℕ) → width ≤ 6 → index < 2 ^ 32 → width * index < 2 ^ 35
+offset-below width index h = let small : width < 2 ^ 3 = omega arith in product-below 3 32 small

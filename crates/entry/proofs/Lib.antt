@@ -1,4 +1,5 @@
 pub mod Covers
+pub mod Rest
 pub mod Turns
 pub mod Walks
 pub mod Induction

@@ -1,12 +1,14 @@
 // The entry table: what an ordinal stands for, or the refusal (12 to 15).
 //
-// One walk, bundle by bundle, serves all who read the table.
+// One walk, bundle by bundle, checks the table for all who read it. Whoever knows that it is sound goes from head to head instead.
+mod heads;
 mod slots;
 mod whole;
 
 use bundle::Answer;
 use bundle::Kind;
 use header::Header;
+pub use heads::find;
 use refusal::Refusal;
 pub use whole::walk;
 ghost use mathlib.Core.Path.{_≡_};

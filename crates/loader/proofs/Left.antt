@@ -28,7 +28,7 @@ use Rattle.loader.specs.Room.{Room, Leaves, outcomeIn}
 use Rattle.loader.proofs.Filled.{zeros-front, zeros-behind}
 use Rattle.loader.proofs.Walks.{Runs, runs}
 
-module _ (image : List ℕ) (h : Header) (s : Segment) (selectors answers output marks : List ℕ) (room : Room image s answers output marks) where
+module _ (image : List ℕ) (h : Header) (s : Segment) (selectors answers output marks : List ℕ) (room : Room image h s answers output marks) where
   abbrev pub storedIn : List ℕ
   storedIn = take (s .stored) (drop (s .start) image)
 

@@ -30,12 +30,13 @@ module _ (image : List ℕ) (number : ℕ) (selectors answers output marks : Lis
   abbrev request : Request
   request = requestOf image number selectors answers (length output) (length marks)
 
-  pub has-room : (h : Header) (s : Segment) → ready.Passed h s ≡ readyOf request → Room image s answers output (zeros (length marks))
+  pub has-room : (h : Header) (s : Segment) → ready.Passed h s ≡ readyOf request → Room image h s answers output (zeros (length marks))
   has-room h s e =
       let passed = was-passed request h s e in
       let in-image = record-accepted image h (number - 1) s (passed .found .segment) in
       let same = length-replicate {A = ℕ} (length marks) 0 in
       record {
+        entries = (passed .found .bundles, passed .found .entries);
         stored = in-image .stored;
         small = omega (arith, in-image .allocation, allocation-full image h (number - 1) s (passed .found .segment) bytes);
         allocation = in-image .allocation;

@@ -22,7 +22,7 @@ pub fn segment(
     output: &mut [u8],
     marks: &mut [u8],
 ) -> Answer
-    requires { ⌜ Room (now image) s (now answers) (now output) (now marks) ⌝ }
+    requires { ⌜ Room (now image) h s (now answers) (now output) (now marks) ⌝ }
     ensures { λ r. ⌜ Leaves (outcomeIn (now (image .entry)) h s (now (selectors .entry)) (now (answers .entry)) (now (marks .entry))) r (now (output .entry)) (now (output .exit)) (now (marks .entry)) (now (marks .exit)) ⌝ }
 {
     let start = s.start;
@@ -48,7 +48,7 @@ fn small(
     output: &mut [u8],
     marks: &mut [u8],
 ) -> Answer
-    requires { ⌜ Room (now image) s (now answers) (now output) (now marks) × (now stored ≡ take (s .stored) (drop (s .start) (now image))) × (s .stored ≤ 4096) ⌝ }
+    requires { ⌜ Room (now image) h s (now answers) (now output) (now marks) × (now stored ≡ take (s .stored) (drop (s .start) (now image))) × (s .stored ≤ 4096) ⌝ }
     ensures { λ r. ⌜ Leaves (outcomeIn (now (image .entry)) h s (now (selectors .entry)) (now (answers .entry)) (now (marks .entry))) r (now (output .entry)) (now (output .exit)) (now (marks .entry)) (now (marks .exit)) ⌝ }
 {
     let mut bytes = [0u8; 4096];
@@ -76,7 +76,7 @@ fn large(
     output: &mut [u8],
     marks: &mut [u8],
 ) -> Answer
-    requires { ⌜ Room (now image) s (now answers) (now output) (now marks) × (now stored ≡ take (s .stored) (drop (s .start) (now image))) ⌝ }
+    requires { ⌜ Room (now image) h s (now answers) (now output) (now marks) × (now stored ≡ take (s .stored) (drop (s .start) (now image))) ⌝ }
     ensures { λ r. ⌜ Leaves (outcomeIn (now (image .entry)) h s (now (selectors .entry)) (now (answers .entry)) (now (marks .entry))) r (now (output .entry)) (now (output .exit)) (now (marks .entry)) (now (marks .exit)) ⌝ }
 {
     let mut bytes = [0u8; 65536];
@@ -106,7 +106,7 @@ fn on(
     output: &mut [u8],
     marks: &mut [u8],
 ) -> Answer
-    requires { ⌜ Room (now image) s (now answers) (now output) (now marks) × (now stored ≡ take (s .stored) (drop (s .start) (now image))) × (length (now bytes) ≡ s .stored) ⌝ }
+    requires { ⌜ Room (now image) h s (now answers) (now output) (now marks) × (now stored ≡ take (s .stored) (drop (s .start) (now image))) × (length (now bytes) ≡ s .stored) ⌝ }
     ensures { λ r. ⌜ Leaves (outcomeIn (now (image .entry)) h s (now (selectors .entry)) (now (answers .entry)) (now (marks .entry))) r (now (output .entry)) (now (output .exit)) (now (marks .entry)) (now (marks .exit)) ⌝ }
 {
     le::slice::copy(stored, bytes);

@@ -3,12 +3,14 @@ use header::Header;
 use prepare::Answer;
 use segment::Segment;
 ghost use mathlib.Core.Path.{_≡_};
+ghost use mathlib.Core.Bool.{true};
 ghost use Prim.Native.Nat.{_≤_};
 ghost use lib.ListN.{length};
+ghost use Rattle.target.specs.Checked.{Checked};
 ghost use Rattle.follow.specs.Pass.{SameSize};
 ghost use Rattle.loader.specs.Run.{ran, runFrom, actionsIn};
 
-// Goes over all records of a segment: each is resolved, and its sites are claimed in the marks and written into `bytes`. Both have a
+// Goes over all records of a segment, once the entry table is checked: each is resolved, and its sites are claimed in the marks and written into `bytes`. Both have a
 // byte for each stored one.
 pub fn all(
     image: &[u8],
@@ -20,7 +22,7 @@ pub fn all(
     marks: &mut [u8],
     bytes: &mut [u8],
 ) -> Answer
-    requires { ⌜ SameSize (now stored) (now marks) (now bytes) × (s .records ≤ length (now answers)) ⌝ }
+    requires { ⌜ SameSize (now stored) (now marks) (now bytes) × (s .records ≤ length (now answers)) × Checked true (now image) h ⌝ }
     ensures { λ r. ⌜ ran r (now (marks .exit)) (now (bytes .exit)) ≡ runFrom (now (stored .entry)) (actionsIn (now (image .entry)) h s (now (selectors .entry)) (now (answers .entry))) 1 0 (now (marks .entry)) (now (bytes .entry)) ⌝ }
 {
     let place = s.list;
@@ -29,7 +31,8 @@ pub fn all(
     let mut sites = 0;
     while index < s.records {
         let import = answers[index as usize];
-        let action = target::action(image, h, selectors, import, target::record(list, index));
+        let record = target::record(list, index);
+        let action = target::action(image, h, true, selectors, import, record);
         let answer = follow::action(stored, action, sites, marks, bytes);
         match answer {
             follow::Answer::Halted(why) => {

@@ -15,17 +15,30 @@ use site::Fixup;
 use site::Kind;
 ghost use mathlib.Core.Path.{_≡_};
 ghost use Prim.Native.Nat.{ℕ};
+ghost use Rattle.target.specs.Checked.{Checked};
 ghost use Rattle.fixup.specs.Record.{typedOf};
 ghost use Rattle.fixup.specs.Action.{applyTo, toTarget, actionOf};
 
-// What a record asks for. The target of one whose type is unknown is not looked at.
-pub fn action(image: &[u8], h: Header, selectors: &[u16], answer: u32, r: Record) -> Action
+// What a record asks for. The target of one whose type is unknown is not looked at. `checked` says whether the entry table is known to
+// be sound.
+pub fn action(
+    image: &[u8],
+    h: Header,
+    checked: bool,
+    selectors: &[u16],
+    answer: u32,
+    r: Record,
+) -> Action
+    requires { ⌜ Checked checked (now image) h ⌝ }
     ensures { λ a. ⌜ a ≡ actionOf (now (image .entry)) h (now (selectors .entry)) answer r ⌝ }
 {
     let typed = typed(r.kind);
     match typed {
         Typed::Unknown => Action::Refuse(Refusal::FixupType),
-        Typed::Known(kind) => to_target(selectors, answer, r, kind, of_record(image, h, r)),
+        Typed::Known(kind) => {
+            let target = of_record(image, h, checked, r);
+            to_target(selectors, answer, r, kind, target)
+        }
     }
 }
 

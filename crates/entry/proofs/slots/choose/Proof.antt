@@ -1,17 +1,12 @@
 -- `entry::slots::choose` meets its contract: the test is the definition's, and an ordinal that is covered lies above what is used.
 -- Assumes nothing.
 use mathlib.Core.Path.{_∙_, sym}
-use Prim.Native.Nat.{ℕ, _+_, _*_, _-_, _^_, _≤_, _<_}
+use Prim.Native.Nat.{_+_, _*_, _-_, _^_, _<_}
 use native.Mathlib.Omega.{arith}
-use Rattle.le.proofs.Product.{product-below}
-use Rattle.entry.proofs.Covers.{covered}
+use Rattle.entry.proofs.Covers.{covered, offset-below}
 use borrow.Author.Needs.{needs}
 use Rattle.entry.proofs.slots.choose.Statement.{statement}
 use Rattle.entry.proofs.slots.choose.Tie as tie
-
--- An entry has at most 6 bytes, and an ordinal 32 bits.
-offset-below : (width index : ℕ) → width ≤ 6 → index < 2 ^ 32 → width * index < 2 ^ 35
-offset-below width index h = let small : width < 2 ^ 3 = omega arith in product-below 3 32 small
 
 covers-requires : tie.Need-covers-requires
 covers-requires c κs = search needs

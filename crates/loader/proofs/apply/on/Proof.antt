@@ -38,7 +38,7 @@ all-requires c κs =
     let a = start .args in
     let size = ap length (start .pre .1) ∙ stored-size (now (a .image)) (a .h) (a .s) (now (a .selectors)) (now (a .answers)) (now (a .output)) (now (a .marks)) (start .pre .0) in
     let marks = length-take-le (length (now (a .stored))) (now (a .marks)) (omega (arith, size, start .pre .0 .marks-fit)) in
-    ((marks, c .before .before .before .before .copy .kept .1 .0 ∙ start .pre .2 ∙ sym size), start .pre .0 .answers-fit)
+    ((marks, c .before .before .before .before .copy .kept .1 .0 ∙ start .pre .2 ∙ sym size), start .pre .0 .answers-fit, start .pre .0 .entries)
 
 enum-known-answer : tie.Need-enum-known-answer
 enum-known-answer c = search needs

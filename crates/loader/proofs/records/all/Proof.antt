@@ -1,7 +1,7 @@
 -- `loader::records::all` meets its contract. The loop's invariant: the pass over the records from here on is that from the first on.
 -- Assumes nothing.
 use mathlib.Core.Path.{_≡_, _∙_, refl, ap}
-use Prim.Native.Nat.{ℕ, suc, _-_, _≤_, _<_}
+use Prim.Native.Nat.{ℕ, suc, _-_, _≤_}
 use native.Mathlib.Numerals.{add-one}
 use native.Mathlib.Omega.{arith}
 use borrow.Author.Needs.{needs}
@@ -11,7 +11,7 @@ use Rattle.fixup.specs.Record.{recordAt}
 use Rattle.fixup.specs.Action.{actionOf}
 use Rattle.site.specs.declared.Action.{Action}
 use Rattle.prepare.specs.declared.Answer.the-variants.{Refused}
-use Rattle.loader.specs.Run.{ran, runFrom, actionsIn}
+use Rattle.loader.specs.Run.{ran, onAnswer, runFrom, actionsIn}
 use Rattle.loader.proofs.Turns.{run-on, run-end}
 use Rattle.loader.proofs.records.all.Statement.{statement}
 use Rattle.loader.proofs.records.all.Tie as tie
@@ -69,17 +69,21 @@ same-length c = search needs
 same-length-2 : tie.Need-same-length-2 Inv-loop μ-loop
 same-length-2 c = search needs
 
+-- The pass over the records from this one on: its sites, then the rest.
+goes-on : (c : tie.After-action2 Inv-loop μ-loop) → let l = c .before .before .before .before .before .before .before .before .loop in let a = c .before .before .before .before .before .before .before .before .before .before .before .before .before .before .before .before .args in let marks = c .action2 .last .1 .1 .1 .0 in let bytes = c .action2 .last .1 .1 .1 .1 .0 in let all = actionsIn (now (a .image)) (a .h) (a .s) (now (a .selectors)) (now (a .answers)) in onAnswer (c .action2 .result) (suc (l .index)) marks bytes (λ more. runFrom (now (a .stored)) (drop (suc (l .index)) all) (suc (suc (l .index))) more marks bytes) ≡ runFrom (now (a .stored)) all 1 0 (now (a .marks)) (now (a .bytes))
+goes-on c =
+    let l = c .before .before .before .before .before .before .before .before .loop in
+    let a = c .before .before .before .before .before .before .before .before .before .before .before .before .before .before .before .before .args in
+    let asked : ℕ → Action = λ i. actionOf (now (a .image)) (a .h) (now (a .selectors)) (getD (now (a .answers)) i 0) (recordAt (drop (a .s .list) (now (a .image))) i) in
+    let asks : c .before .before .before .action .result ≡ asked (l .index) = rw (c .before .before .before .action .ensures, c .before .before .before .before .«record» .ensures, c .before .before .before .before .before .before .before .before .before .from .ensures) refl in
+    let pass = rw asks at (c .action2 .ensures) in
+    run-on (now (a .stored)) (a .s .records) asked (suc (l .index)) (l .sites) (l .marks) (l .bytes) (l .index) (omega arith) pass ∙ l .inv .3
+
 returns : tie.Need-returns Inv-loop μ-loop
 returns c =
     let l = c .before .before .before .before .before .before .before .before .before .before .before .before .before .before .before .loop in
-    let a = c .before .before .before .before .before .before .before .before .before .before .before .before .before .before .before .before .before .before .before .before .before .before .before .args in
-    let asked : ℕ → Action = λ i. actionOf (now (a .image)) (a .h) (now (a .selectors)) (getD (now (a .answers)) i 0) (recordAt (drop (a .s .list) (now (a .image))) i) in
-    let asks : c .before .before .before .before .before .before .before .before .before .before .action .result ≡ asked (l .index) = rw (c .before .before .before .before .before .before .before .before .before .before .action .ensures, c .before .before .before .before .before .before .before .before .before .before .before .«record» .ensures, c .before .before .before .before .before .before .before .before .before .before .before .before .before .before .before .before .from .ensures) refl in
-    let pass = rw asks at (c .before .before .before .before .before .before .before .action2 .ensures) in
-    let on = run-on (now (a .stored)) (a .s .records) asked (suc (l .index)) (l .sites) (l .marks) (l .bytes) (l .index) (omega arith) pass in
-    let refused = rw (c .before .answer .given .1) at on ∙ l .inv .3 in
-    let numbered = ap (λ (n : ℕ). ran (Refused (c .before .answer .given .0 .0) n) (c .before .before .before .before .before .before .before .action2 .last .1 .1 .1 .0) (c .before .before .before .before .before .before .before .action2 .last .1 .1 .1 .1 .0)) (add-one (l .index)) ∙ refused in
-    numbered
+    let refused = rw (c .before .answer .given .1) at (goes-on (c .before .before .before .before .before .before .before)) in
+    ap (λ (n : ℕ). ran (Refused (c .before .answer .given .0 .0) n) (c .before .before .before .before .before .before .before .action2 .last .1 .1 .1 .0) (c .before .before .before .before .before .before .before .action2 .last .1 .1 .1 .1 .0)) (add-one (l .index)) ∙ refused
 
 enum-known-answer-2 : tie.Need-enum-known-answer-2 Inv-loop μ-loop
 enum-known-answer-2 c = search needs
@@ -93,12 +97,7 @@ loop-less c = search needs
 loop-again : tie.Need-loop-again Inv-loop μ-loop
 loop-again c =
     let l = c .before .before .before .before .before .before .before .before .before .before .before .before .before .before .before .loop in
-    let a = c .before .before .before .before .before .before .before .before .before .before .before .before .before .before .before .before .before .before .before .before .before .before .before .args in
-    let asked : ℕ → Action = λ i. actionOf (now (a .image)) (a .h) (now (a .selectors)) (getD (now (a .answers)) i 0) (recordAt (drop (a .s .list) (now (a .image))) i) in
-    let asks : c .before .before .before .before .before .before .before .before .before .before .action .result ≡ asked (l .index) = rw (c .before .before .before .before .before .before .before .before .before .before .action .ensures, c .before .before .before .before .before .before .before .before .before .before .before .«record» .ensures, c .before .before .before .before .before .before .before .before .before .before .before .before .before .before .before .before .from .ensures) refl in
-    let pass = rw asks at (c .before .before .before .before .before .before .before .action2 .ensures) in
-    let on = run-on (now (a .stored)) (a .s .records) asked (suc (l .index)) (l .sites) (l .marks) (l .bytes) (l .index) (omega arith) pass in
-    (c .before .before .before .before .before .before .before .action2 .kept .1 .1 .1 .0 ∙ l .inv .0, c .before .before .before .before .before .before .before .action2 .kept .1 .1 .1 .1 .0 ∙ l .inv .1, omega arith, rw (add-one (l .index)) (rw (c .before .answer2 .given .1) at on ∙ l .inv .3))
+    (c .before .before .before .before .before .before .before .action2 .kept .1 .1 .1 .0 ∙ l .inv .0, c .before .before .before .before .before .before .before .action2 .kept .1 .1 .1 .1 .0 ∙ l .inv .1, omega arith, rw (add-one (l .index)) (rw (c .before .answer2 .given .1) at (goes-on (c .before .before .before .before .before .before .before))))
 
 same-length-3 : tie.Need-same-length-3 Inv-loop μ-loop
 same-length-3 c = search needs

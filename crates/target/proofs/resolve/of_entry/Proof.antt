@@ -5,8 +5,8 @@ use borrow.Author.Needs.{needs}
 use Rattle.target.proofs.resolve.of_entry.Statement.{statement}
 use Rattle.target.proofs.resolve.of_entry.Tie as tie
 
-in-table-requires : tie.Need-in-table-requires
-in-table-requires c κs = search needs
+entry-at-requires : tie.Need-entry-at-requires
+entry-at-requires c κs = search needs
 
 enum-known-answer : tie.Need-enum-known-answer
 enum-known-answer c = search needs
@@ -15,11 +15,11 @@ enum-told : tie.Need-enum-told
 enum-told c = search needs
 
 returns : tie.Need-returns
-returns c = rw (sym (c .before .before .before .in-table .ensures) ∙ c .before .answer .given .1)
+returns c = rw (sym (c .before .before .before .entry-at .ensures) ∙ c .before .answer .given .1)
 
 returns-2 : tie.Need-returns-2
-returns-2 c = rw (sym (c .before .before .in-table .ensures) ∙ c .enum-told .given .1)
+returns-2 c = rw (sym (c .before .before .entry-at .ensures) ∙ c .enum-told .given .1)
 
 pub of-entry-spec : {M : Type 1} → statement M
 of-entry-spec =
-    tie.close (tie.spec in-table-requires enum-known-answer enum-told returns returns-2)
+    tie.close (tie.spec entry-at-requires enum-known-answer enum-told returns returns-2)
