@@ -12,7 +12,7 @@ ghost use Rattle.loader.specs.Room.{Room, Leaves, outcomeIn};
 // Segments up to this length take a small array: clearing a large one would cost more than all other work on them.
 const SMALL: u32 = 4096;
 
-// A segment without records is copied.
+// Prepares a segment: one without records is copied, another is made in an array first.
 pub fn segment(
     image: &[u8],
     h: Header,
@@ -53,7 +53,7 @@ fn small(
 {
     let mut bytes = [0u8; 4096];
     let size = s.stored as usize;
-    on(
+    in_array(
         image,
         h,
         s,
@@ -81,7 +81,7 @@ fn large(
 {
     let mut bytes = [0u8; 65536];
     let size = s.stored as usize;
-    on(
+    in_array(
         image,
         h,
         s,
@@ -94,8 +94,9 @@ fn large(
     )
 }
 
-// Applies the records on `bytes`. They go to the output once all records are known good; otherwise the marks are cleared again.
-fn on(
+// Applies the records in an array of as many bytes as are stored. It goes to the output once all records are known good; otherwise the
+// marks are cleared again.
+fn in_array(
     image: &[u8],
     h: Header,
     s: Segment,

@@ -10,8 +10,8 @@ ghost use Rattle.target.specs.Checked.{Checked};
 ghost use Rattle.follow.specs.Pass.{SameSize};
 ghost use Rattle.loader.specs.Run.{ran, runFrom, actionsIn};
 
-// Goes over all records of a segment, once the entry table is checked: each is resolved, and its sites are claimed in the marks and written into `bytes`. Both have a
-// byte for each stored one.
+// Goes over all records of a segment, once the entry table is checked: each is resolved, and its sites are claimed in the marks and
+// written into `bytes`. Both have a byte for each stored one.
 pub fn all(
     image: &[u8],
     h: Header,

@@ -12,11 +12,11 @@ cast-size c = search needs
 array-borrow-prefix-bytes : tie.Need-array-borrow-prefix-bytes
 array-borrow-prefix-bytes c = search needs
 
-slice-aggregate-on : tie.Need-slice-aggregate-on
-slice-aggregate-on c = let start = c .before .before .before .before .before .before .before .before in sym (part-size (start .args .s .stored) 4096 (start .pre .2))
+slice-aggregate-in-array : tie.Need-slice-aggregate-in-array
+slice-aggregate-in-array c = let start = c .before .before .before .before .before .before .before .before in sym (part-size (start .args .s .stored) 4096 (start .pre .2))
 
-on-requires : tie.Need-on-requires
-on-requires c κs = let start = c .before .before .before .before .before .before .before .before .before .before in (start .pre .0, start .pre .1, part-size (start .args .s .stored) 4096 (start .pre .2))
+in-array-requires : tie.Need-in-array-requires
+in-array-requires c κs = let start = c .before .before .before .before .before .before .before .before .before .before in (start .pre .0, start .pre .1, part-size (start .args .s .stored) 4096 (start .pre .2))
 
 same-length : tie.Need-same-length
 same-length c = search needs
@@ -33,8 +33,8 @@ small-spec =
     (tie.spec
     cast-size
     array-borrow-prefix-bytes
-    slice-aggregate-on
-    on-requires
+    slice-aggregate-in-array
+    in-array-requires
     same-length
     same-length-2
     returns)

@@ -1,4 +1,4 @@
--- `loader::apply::on` meets its contract: the pass starts on the stored bytes with no mark, and what it leaves goes to the output, or
+-- `loader::apply::in_array` meets its contract: the pass starts on the stored bytes with no mark, and what it leaves goes to the output, or
 -- the marks are cleared.
 -- Assumes nothing.
 use mathlib.Core.Path.{_≡_, _∙_, ap, sym}
@@ -12,8 +12,8 @@ use Rattle.le.specs.Slice.{zeros}
 use Rattle.loader.proofs.Filled.{copied-whole}
 use Rattle.loader.proofs.Left.{stored-size, accepted-left, refused-left}
 use borrow.Author.Needs.{needs}
-use Rattle.loader.proofs.apply.on.Statement.{statement}
-use Rattle.loader.proofs.apply.on.Tie as tie
+use Rattle.loader.proofs.apply.in_array.Statement.{statement}
+use Rattle.loader.proofs.apply.in_array.Tie as tie
 
 copy-requires : tie.Need-copy-requires
 copy-requires c κs = search needs
@@ -92,8 +92,8 @@ returns-2 c =
     let gave = rw (c .before .before .before .before .before .before .before .answer2 .given .1, whole, start .pre .1) at (c .before .before .before .before .before .before .before .before .before .before .before .before .before .all .ensures) in
     rw (c .before .before .output .ensures, start .pre .1) (accepted-left (now (a .image)) (a .h) (a .s) (now (a .selectors)) (now (a .answers)) (now (a .output)) (now (a .marks)) (start .pre .0) _ _ _ gave)
 
-pub on-spec : {M : Type 1} → statement M
-on-spec =
+pub in-array-spec : {M : Type 1} → statement M
+in-array-spec =
     tie.close
     (tie.spec
     copy-requires
