@@ -1,4 +1,4 @@
-// A fixup record: its fields, and its target (22, 23). So far the types and their theory; the meaning stands in `specs/`.
+// A fixup record: its fields, and its target (22, 23). The types and their theory; `target` has the code.
 use refusal::Refusal;
 use site::Kind;
 

@@ -1,5 +1,5 @@
-// A fixup whose target is known: its sites, their spans, what is written there, and document 01's step. So far the types and
-// their theory; the meaning stands in `specs/`.
+// A fixup whose target is known: its sites, their spans, what is written there, and document 01's step. The types and their theory;
+// `claim`, `patch`, `follow` and `step` have the code.
 use refusal::Refusal;
 
 // What a fixup writes at a site.
