@@ -9,7 +9,7 @@ use header::Header;
 pub use read::fields;
 pub use read::record;
 use refusal::Refusal;
-pub use resolve::of_record;
+use resolve::of_record;
 use site::Action;
 use site::Fixup;
 use site::Kind;
