@@ -1,6 +1,5 @@
 -- What the functions behind the checks may count on, and what they leave.
 use mathlib.Core.Path.{_≡_}
-use mathlib.Core.Bool.{true}
 use mathlib.Core.List.{List}
 use Prim.Native.Nat.{ℕ, _+_, _≤_}
 use lib.ListN.{length}
@@ -13,7 +12,7 @@ use Rattle.prepare.specs.Prepare.{Outcome, requestOf, outcomeOf, walkedOf, answ
 
 -- The entry table is sound, the segment lies in the image, what is lent is long enough for it, and nothing is marked yet.
 pub record Room (image : List ℕ) (h : Header) (s : Segment) (answers output marks : List ℕ) : Type 0 where
-  pub entries : Checked true image h
+  pub entries : Checked image h
   pub stored : s .start + s .stored ≤ length image
   pub small : s .stored ≤ 65536
   pub allocation : s .stored ≤ s .allocation

@@ -46,7 +46,7 @@ pub fn step(image: &[u8], fixup: &[u8; 8], answer: u32, selectors: &[u16], buffe
     match headers {
         header::Answer::Refused(_) => {}
         header::Answer::Accepted(h) => {
-            let action = target::action(image, h, false, selectors, answer, target::fields(fixup));
+            let action = target::alone(image, h, selectors, answer, target::fields(fixup));
             step::carry_out(action, buffer);
         }
     }

@@ -3,7 +3,6 @@ use header::Header;
 use prepare::Answer;
 use segment::Segment;
 ghost use mathlib.Core.Path.{_≡_};
-ghost use mathlib.Core.Bool.{true};
 ghost use Prim.Native.Nat.{_≤_};
 ghost use lib.ListN.{length};
 ghost use Rattle.target.specs.Checked.{Checked};
@@ -22,7 +21,7 @@ pub fn all(
     marks: &mut [u8],
     bytes: &mut [u8],
 ) -> Answer
-    requires { ⌜ SameSize (now stored) (now marks) (now bytes) × (s .records ≤ length (now answers)) × Checked true (now image) h ⌝ }
+    requires { ⌜ SameSize (now stored) (now marks) (now bytes) × (s .records ≤ length (now answers)) × Checked (now image) h ⌝ }
     ensures { λ r. ⌜ ran r (now (marks .exit)) (now (bytes .exit)) ≡ runFrom (now (stored .entry)) (actionsIn (now (image .entry)) h s (now (selectors .entry)) (now (answers .entry))) 1 0 (now (marks .entry)) (now (bytes .entry)) ⌝ }
 {
     let place = s.list;
@@ -32,7 +31,7 @@ pub fn all(
     while index < s.records {
         let import = answers[index as usize];
         let record = target::record(list, index);
-        let action = target::action(image, h, true, selectors, import, record);
+        let action = target::action(image, h, selectors, import, record);
         let answer = follow::action(stored, action, sites, marks, bytes);
         match answer {
             follow::Answer::Halted(why) => {

@@ -1,15 +1,20 @@
--- What whoever resolves a target knows of the entry table.
+-- What is known of the entry table and its entries where a target is resolved.
 use mathlib.Core.Path.{_≡_}
-use mathlib.Core.Bool.{Bool, true, false}
 use mathlib.Core.List.{List}
 use Prim.Native.Nat.{ℕ}
 use Rattle.header.specs.declared.Header.{Header}
 use Rattle.bundle.specs.declared.Bundle.{Bundle}
+use Rattle.bundle.specs.declared.Entry.{Entry}
+use Rattle.bundle.specs.declared.Answer.{Answer}
+use Rattle.bundle.specs.declared.Answer.the-variants.{Accepted}
 use Rattle.tables.specs.Table.{Sound}
 use Rattle.entry.specs.Table.{tableOf}
 use Rattle.entry.specs.Ordinal.{tableBytes}
 
--- That it is sound, where it was checked.
-abbrev pub Checked : Bool → List ℕ → Header → Type 0
-Checked true image h = (bundles : List Bundle) × (tableOf (tableBytes image h) (h .segments .count) ≡ Sound bundles)
-Checked false image h = Unit
+-- That the table was checked, and is sound.
+abbrev pub Checked : List ℕ → Header → Type 0
+Checked image h = (bundles : List Bundle) × (tableOf (tableBytes image h) (h .segments .count) ≡ Sound bundles)
+
+-- That an entry, if there is one, is in a segment that counts from 1.
+abbrev pub Counted : Answer → Type 0
+Counted answer = (e : Entry) → answer ≡ Accepted e → e .segment ≡ 0 → ⊥

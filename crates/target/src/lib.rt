@@ -1,45 +1,55 @@
 // What a fixup record asks for, once the selectors and its import answer are known: its type (22), then its target (23).
+mod address;
 mod read;
-mod resolve;
 
+use bundle::Answer;
 use fixup::Record;
-use fixup::Target;
 use fixup::Typed;
 use header::Header;
 pub use read::fields;
 pub use read::record;
 use refusal::Refusal;
-use resolve::of_record;
 use site::Action;
-use site::Fixup;
 use site::Kind;
 ghost use mathlib.Core.Path.{_≡_};
+ghost use mathlib.Core.Bool.{false};
 ghost use Prim.Native.Nat.{ℕ};
-ghost use Rattle.target.specs.Checked.{Checked};
+ghost use Rattle.target.specs.Checked.{Checked, Counted};
 ghost use Rattle.fixup.specs.Record.{typedOf};
-ghost use Rattle.fixup.specs.Action.{applyTo, toTarget, actionOf};
+ghost use Rattle.fixup.specs.Target.{byOrdinal, entryTarget};
+ghost use Rattle.fixup.specs.Action.{ofType, actionOf};
 
-// What a record asks for. The target of one whose type is unknown is not looked at. `checked` says whether the entry table is known to
-// be sound.
-pub fn action(
-    image: &[u8],
-    h: Header,
-    checked: bool,
-    selectors: &[u16],
-    answer: u32,
-    r: Record,
-) -> Action
-    requires { ⌜ Checked checked (now image) h ⌝ }
+// What a record asks for, where the entry table is known to be sound.
+pub fn action(image: &[u8], h: Header, selectors: &[u16], answer: u32, r: Record) -> Action
+    requires { ⌜ Checked (now image) h ⌝ }
     ensures { λ a. ⌜ a ≡ actionOf (now (image .entry)) h (now (selectors .entry)) answer r ⌝ }
 {
-    let typed = typed(r.kind);
-    match typed {
-        Typed::Unknown => Action::Refuse(Refusal::FixupType),
-        Typed::Known(kind) => {
-            let target = of_record(image, h, checked, r);
-            to_target(selectors, answer, r, kind, target)
-        }
+    if by_ordinal(r) {
+        let entry = entry::find(entry::table(image, h), r.last as u32);
+        return to_entry(selectors, r, entry);
     }
+    to_other(image, h, selectors, answer, r)
+}
+
+// What a record asks for, where nothing is known of the entry table: it is checked first if an ordinal is looked for.
+pub fn alone(image: &[u8], h: Header, selectors: &[u16], answer: u32, r: Record) -> Action
+    ensures { λ a. ⌜ a ≡ actionOf (now (image .entry)) h (now (selectors .entry)) answer r ⌝ }
+{
+    if by_ordinal(r) {
+        let entry = entry::in_table(image, h, r.last as u32);
+        return to_entry(selectors, r, entry);
+    }
+    to_other(image, h, selectors, answer, r)
+}
+
+// Whether a record's target is an ordinal of the module itself.
+fn by_ordinal(r: Record) -> bool
+    ensures { λ b. ⌜ b ≡ byOrdinal r ⌝ }
+{
+    if r.flags % 4 != 0 {
+        return false;
+    }
+    r.first % 256 == 255
 }
 
 // What a record's type stands for.
@@ -55,38 +65,26 @@ fn typed(kind: u8) -> Typed
     }
 }
 
-// What a record of a known type asks for. Segments count from 1, so no target is in a segment 0.
-fn to_target(selectors: &[u16], answer: u32, r: Record, kind: Kind, target: Target) -> Action
-    requires { ⌜ ((offset : ℕ) → target ≡ Target.Segment 0 offset → ⊥) ⌝ }
-    ensures { λ a. ⌜ a ≡ toTarget (now (selectors .entry)) answer r kind target ⌝ }
+// What a record by ordinal asks for, once the ordinal's entry is known.
+fn to_entry(selectors: &[u16], r: Record, entry: Answer) -> Action
+    requires { ⌜ Counted entry ⌝ }
+    ensures { λ a. ⌜ ((answer : ℕ) → a ≡ ofType (now (selectors .entry)) answer r (typedOf (r .kind)) (entryTarget entry)) ⌝ }
 {
-    match target {
-        Target::Segment(segment, offset) => {
-            let number = segment as usize;
-            if selectors.len() < number {
-                return Action::Refuse(Refusal::TargetSegment);
-            }
-            apply(kind, r, offset, selectors[number - 1])
-        }
-        Target::Import => {
-            let offset = (answer % 65536) as u16;
-            let selector = (answer / 65536) as u16;
-            apply(kind, r, offset, selector)
-        }
-        Target::Os => Action::Skip,
-        Target::Unresolved(why) => Action::Refuse(why),
+    let typed = typed(r.kind);
+    match typed {
+        Typed::Unknown => Action::Refuse(Refusal::FixupType),
+        Typed::Known(kind) => address::of_entry(selectors, r, kind, entry),
     }
 }
 
-// A fixup to an address.
-fn apply(kind: Kind, r: Record, offset: u16, selector: u16) -> Action
-    ensures { λ a. ⌜ a ≡ applyTo kind r offset selector ⌝ }
+// What a record of another kind asks for. Nothing of the entry table is looked at.
+fn to_other(image: &[u8], h: Header, selectors: &[u16], answer: u32, r: Record) -> Action
+    requires { ⌜ byOrdinal r ≡ false ⌝ }
+    ensures { λ a. ⌜ a ≡ actionOf (now (image .entry)) h (now (selectors .entry)) answer r ⌝ }
 {
-    Action::Apply(Fixup {
-        kind: kind,
-        additive: r.flags / 4 == 1,
-        site: r.site,
-        offset: offset,
-        selector: selector,
-    })
+    let typed = typed(r.kind);
+    match typed {
+        Typed::Unknown => Action::Refuse(Refusal::FixupType),
+        Typed::Known(kind) => address::of_other(image, h, selectors, answer, r, kind),
+    }
 }

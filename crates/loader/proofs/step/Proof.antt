@@ -22,8 +22,8 @@ enum-known-headers c = search needs
 fields-requires : tie.Need-fields-requires
 fields-requires c κs = search needs
 
-action-requires : tie.Need-action-requires
-action-requires c κs = search needs
+alone-requires : tie.Need-alone-requires
+alone-requires c κs = search needs
 
 carry-out-requires : tie.Need-carry-out-requires
 carry-out-requires c κs = search needs
@@ -40,7 +40,7 @@ unfolding stepOf onHeader
 returns-2 c =
     let a = c .before .before .before .before .before .before .before .before .before .before .before .before .before .before .args in
     let h = c .before .before .before .before .before .before .before .before .headers .given .0 .0 in
-    let asks : c .before .before .before .before .action .result ≡ actionOf (now (a .image)) h (now (a .selectors)) (a .answer) (recordAt (now (a .fixup)) 0) = rw (sym (c .before .before .before .before .before .fields .ensures)) (c .before .before .before .before .action .ensures) in
+    let asks : c .before .before .before .before .alone .result ≡ actionOf (now (a .image)) h (now (a .selectors)) (a .answer) (recordAt (now (a .fixup)) 0) = rw (sym (c .before .before .before .before .before .fields .ensures)) (c .before .before .before .before .alone .ensures) in
     rw (sym (c .before .before .before .before .before .before .before .before .before .before .read .ensures) ∙ c .before .before .before .before .before .before .before .before .headers .given .1, sym asks) (c .before .before .carry-out .ensures)
 
 pub step-spec : {M : Type 1} → statement M
@@ -51,7 +51,7 @@ step-spec =
     enum-told
     enum-known-headers
     fields-requires
-    action-requires
+    alone-requires
     carry-out-requires
     returns
     same-length

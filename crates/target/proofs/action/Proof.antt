@@ -1,73 +1,65 @@
--- `target::action` meets its contract: the type decides first, then the target, which is in no segment 0.
+-- `target::action` meets its contract: in a table that was checked, what is found is what the whole table says.
 -- Assumes nothing.
 use mathlib.Core.Path.{_≡_, sym, _∙_}
-use mathlib.Core.Bool.{false}
-use mathlib.Core.List.{List}
-use Prim.Native.Nat.{ℕ}
-use native.Mathlib.Omega.{arith}
+use mathlib.Core.Bool.{true}
 use denote.Ref.{now}
-use Rattle.checks.proofs.Impossible.{never}
-use Rattle.header.specs.Header.{lacks}
-use Rattle.header.specs.declared.Header.{Header}
-use Rattle.header.proofs.Numbered.{has}
-use Rattle.fixup.specs.declared.Record.{Record}
-use Rattle.fixup.specs.declared.Target.{Target}
-use Rattle.fixup.specs.declared.Target.the-variants.{Segment}
-use Rattle.fixup.specs.Target.{targetOf}
-use Rattle.fixup.specs.Action.{actionOf}
-use Rattle.fixup.proofs.Targets.{target-cases}
+use Rattle.tables.specs.Table.{Sound}
+use Rattle.entry.specs.Ordinal.{tableBytes, inTable, ordinalIn}
+use Rattle.fixup.specs.Target.{byOrdinal}
 use borrow.Author.Needs.{needs}
+use Rattle.target.specs.Checked.{Checked, Counted}
+use Rattle.target.proofs.Entries.{by-entry, counted}
 use Rattle.target.proofs.action.Statement.{statement}
 use Rattle.target.proofs.action.Tie as tie
 
-typed-requires : tie.Need-typed-requires
-typed-requires c κs = search needs
+by-ordinal-requires : tie.Need-by-ordinal-requires
+by-ordinal-requires c κs = search needs
 
-enum-told : tie.Need-enum-told
-enum-told c = search needs
+table-requires : tie.Need-table-requires
+table-requires c κs = search needs
 
-enum-known-typed : tie.Need-enum-known-typed
-enum-known-typed c = search needs
+cast-find : tie.Need-cast-find
+cast-find c = search needs
 
-of-record-requires : tie.Need-of-record-requires
-of-record-requires c κs = search needs
+find-requires : tie.Need-find-requires
+find-requires c κs = search needs
 
--- The segments of a module count from 1.
-counted : (image : List ℕ) (h : Header) (r : Record) (offset : ℕ) → targetOf image h r ≡ Segment 0 offset → ⊥
-counted image h r = target-cases image h r Counted in-segment (λ o e. never cc) (λ o e. never cc) (λ why is o e. never cc)
-  where
-    Counted : Target → Type 0
-    Counted t = (offset : ℕ) → t ≡ Segment 0 offset → ⊥
+found : (c : tie.After-find) → let a = c .before .before .before .before .before .before .before .args in c .find .result ≡ ordinalIn (now (a .image)) (a .h) (a .r .last)
+unfolding ordinalIn
+found c =
+    let start = c .before .before .before .before .before .before .before in
+    let a = start .args in
+    let checked : Checked (now (a .image)) (a .h) = start .pre in
+    let is : c .find .result ≡ inTable (tableBytes (now (a .image)) (a .h)) (Sound (checked .0)) (a .r .last) = rw (c .before .before .table .ensures) at (c .find .ensures) (a .h .segments .count) (checked .0) (checked .1) in
+    rw (checked .1) is
 
-    in-segment : (segment at : ℕ) → lacks (h .segments .count) segment ≡ false → Counted (Segment segment at)
-    in-segment segment at there o e =
-        let low = has _ _ there .0 in
-        let none : segment ≡ 0 = cc in
-        omega arith
-
-to-target-requires : tie.Need-to-target-requires
-to-target-requires c κs =
+to-entry-requires : tie.Need-to-entry-requires
+to-entry-requires c κs =
     let a = c .before .before .before .before .before .before .before .args in
-    rw (c .of-record .ensures) (counted (now (a .image)) (a .h) (a .r))
+    rw (found c) (counted (now (a .image)) (a .h) (a .r .last))
 
 returns : tie.Need-returns
-unfolding actionOf
-returns c = rw (sym (c .before .before .typed .ensures) ∙ c .enum-told .given .1)
+returns c =
+    let start = c .before .before .before .before .before .before .before .before in
+    let a = start .args in
+    let ordinal : byOrdinal (a .r) ≡ true = sym (c .before .before .before .before .before .by-ordinal .ensures) ∙ c .before .before .before .before .if1 .taken in
+    rw (by-entry (now (a .image)) (a .h) (now (a .selectors)) (a .answer) (a .r) ordinal, ← found (c .before)) (c .to-entry .ensures (a .answer))
+
+to-other-requires : tie.Need-to-other-requires
+to-other-requires c κs = sym (c .before .by-ordinal .ensures) ∙ c .if1 .left
 
 returns-2 : tie.Need-returns-2
-unfolding actionOf
-returns-2 c =
-    let known = c .before .before .before in
-    rw (sym (known .before .before .typed .ensures) ∙ known .typed2 .given .1, ← c .before .of-record .ensures) (c .to-target .ensures)
+returns-2 c = search needs
 
 pub action-spec : {M : Type 1} → statement M
 action-spec =
     tie.close
     (tie.spec
-    typed-requires
-    enum-told
-    enum-known-typed
-    of-record-requires
-    to-target-requires
+    by-ordinal-requires
+    table-requires
+    cast-find
+    find-requires
+    to-entry-requires
     returns
+    to-other-requires
     returns-2)
