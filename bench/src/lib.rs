@@ -1,5 +1,5 @@
 //! What the times of the static library `ne` are compared on and with: inputs,
-//! and careful Rust that does the same work.
+//! careful Rust that does the same work, and the second program.
 
 #![forbid(unsafe_code)]
 #![warn(missing_docs)]
@@ -7,6 +7,7 @@
 pub mod answer;
 pub mod careful;
 pub mod inputs;
+pub mod second;
 
 #[cfg(test)]
 mod tests;

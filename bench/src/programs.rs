@@ -4,6 +4,7 @@ use crate::library;
 use bench::answer::{Answer, Request};
 use bench::careful;
 use bench::inputs::Input;
+use bench::second;
 
 /// Prepares the input's segment. The request has the input's image where it
 /// stands for the measuring.
@@ -17,23 +18,10 @@ pub const PLAIN_COPY: usize = 3;
 /// All of them, each at its index.
 pub const PROGRAMS: [Program; 4] = [
     |_, request, output, marks| library::prepare(request, output, marks),
-    |_, request, output, marks| second(request, output, marks),
+    |_, request, output, marks| second::prepare(request, output, marks),
     |_, request, output, marks| careful::prepare(request, output, marks),
     plain_copy,
 ];
-
-fn second(request: &Request, output: &mut [u8], marks: &mut [u8]) -> Answer {
-    let Request {
-        image,
-        number,
-        selectors,
-        answers,
-    } = *request;
-    match reference::prepare(image, number, selectors, answers, output, marks) {
-        Ok(sites) => Answer::accepted(sites),
-        Err(refused) => Answer::refused(refused.number, refused.record),
-    }
-}
 
 /// Writes as many bytes as preparing has to, and checks nothing: the stored
 /// bytes, zeros behind them, zero marks.

@@ -4,6 +4,7 @@
 use crate::answer::{Answer, Request};
 use crate::careful;
 use crate::inputs;
+use crate::second;
 use builder::{damage, every_field_damage, generate, specials, Case, Random};
 use std::collections::BTreeMap;
 
@@ -13,31 +14,23 @@ type Outcome = (Answer, Vec<u8>, Vec<u8>);
 /// How often each refusal was seen, 0 for acceptance.
 type Seen = BTreeMap<u32, u32>;
 
-fn second(request: &Request, (output, marks): Room) -> Outcome {
+/// What one program answers and leaves.
+fn outcome(
+    prepare: fn(&Request, &mut [u8], &mut [u8]) -> Answer,
+    request: &Request,
+    (output, marks): Room,
+) -> Outcome {
     let (mut output, mut marks) = (vec![0xA5; output], vec![0x5A; marks]);
-    let Request {
-        image,
-        number,
-        selectors,
-        answers,
-    } = *request;
-    let answer = reference::prepare(image, number, selectors, answers, &mut output, &mut marks);
-    let answer = match answer {
-        Ok(sites) => Answer::accepted(sites),
-        Err(refused) => Answer::refused(refused.number, refused.record),
-    };
-    (answer, output, marks)
-}
-
-fn careful(request: &Request, (output, marks): Room) -> Outcome {
-    let (mut output, mut marks) = (vec![0xA5; output], vec![0x5A; marks]);
-    let answer = careful::prepare(request, &mut output, &mut marks);
+    let answer = prepare(request, &mut output, &mut marks);
     (answer, output, marks)
 }
 
 /// Asks both programs.
 fn agree(request: &Request, room: Room, seen: &mut Seen, what: &dyn Fn() -> String) {
-    let (one, other) = (careful(request, room), second(request, room));
+    let (one, other) = (
+        outcome(careful::prepare, request, room),
+        outcome(second::prepare, request, room),
+    );
     assert_eq!(one.0, other.0, "{}", what());
     assert!(one.1 == other.1, "output: {}", what());
     assert!(one.2 == other.2, "marks: {}", what());
@@ -78,7 +71,7 @@ fn inputs_are_accepted() {
         let request = input.request(&input.image);
         agree(&request, room, &mut seen, &|| input.name.clone());
         assert_eq!(seen.get(&0), Some(&1), "{}", input.name);
-        let sites = careful(&request, room).0.sites;
+        let sites = outcome(careful::prepare, &request, room).0.sites;
         match input.family {
             Some("no records, by byte") => assert_eq!((input.units, sites), (room.1, 0)),
             Some("16 far sites each, by record") => assert_eq!(16 * input.units, sites as usize),

@@ -1,7 +1,7 @@
 -- Document 01, "Target": what a record's target words name. It depends on the image's header and tables and on the record
 -- alone.
 use Prim.Native.Nat.{ℕ, _%_}
-use mathlib.Core.Bool.{Bool, false, cond}
+use mathlib.Core.Bool.{cond}
 use mathlib.Core.List.{List, [], _∷_}
 use lib.Dec.{eqb}
 use Rattle.refusal.specs.declared.Refusal.the-variants.{TargetSegment, TargetModule, TargetOrdinal, TargetString}
@@ -23,14 +23,14 @@ abbrev pub entryTarget : entry.Answer → Target
 entryTarget (entries.Accepted e) = Segment (e .segment) (e .offset)
 entryTarget (entries.Refused why) = Unresolved TargetOrdinal
 
--- "the first target byte is the segment, the next is not read; 1 to the count (not 255) gives that segment's selector, with the
--- last word as offset".
+-- "Internal: the first target byte is the segment, the next is not read; 1 to the count (not 255) gives that segment's selector,
+-- with the last word as offset".
 abbrev pub segmentTarget : Header → Record → Target
 segmentTarget h r =
     let segment = r .first % 256 in
     decide Unresolved ((lacks (h .segments .count) segment ⇒ TargetSegment) ∷ []) (Segment segment (r .last))
 
--- "255 gives the entry of the ordinal in the last word."
+-- "Internal: […] 255 gives the entry of the ordinal in the last word."
 unfoldable pub internalTarget : List ℕ → Header → Record → Target
 internalTarget image h r =
     let entry = entryTarget (ordinalIn image h (r .last)) in
@@ -53,7 +53,3 @@ targetOf image h r =
     cond (eqb how 0) (internalTarget image h r)
     (cond (eqb how 1) (importTarget h r Import)
     (cond (eqb how 2) (importTarget h r named) Os))
-
--- Whether a record is internal and by ordinal: of all targets only these are looked up in the entry table.
-abbrev pub byOrdinal : Record → Bool
-byOrdinal r = cond (eqb (r .flags % 4) 0) (eqb (r .first % 256) 255) false

@@ -18,7 +18,7 @@ pub enum Typed {
 }
 
 // What a record's target words name: an offset in a segment of the module, an import, nothing (an OS fixup), or nothing that
-// is there.
+// is there. A type of the meaning alone: the code goes from the words to the action.
 pub enum Target {
     Segment(u8, u16),
     Import,

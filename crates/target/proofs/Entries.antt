@@ -12,10 +12,10 @@ use Rattle.header.proofs.Numbered.{has}
 use Rattle.entry.specs.Ordinal.{ordinalIn}
 use Rattle.entry.proofs.Segments.{ordinal-segment}
 use Rattle.fixup.specs.declared.Record.{Record}
-use Rattle.fixup.specs.Target.{byOrdinal, entryTarget, internalTarget, targetOf}
+use Rattle.fixup.specs.Target.{entryTarget, internalTarget, targetOf}
 use Rattle.fixup.specs.Record.{typedOf}
 use Rattle.fixup.specs.Action.{ofType, actionOf}
-use Rattle.target.specs.Checked.{Counted}
+use Rattle.target.specs.Checked.{Counted, byOrdinal}
 
 both : (a b : Bool) → cond a b false ≡ true → (a ≡ true) × (b ≡ true)
 both true b e = (refl, e)

@@ -14,9 +14,9 @@ use site::Kind;
 ghost use mathlib.Core.Path.{_≡_};
 ghost use mathlib.Core.Bool.{false};
 ghost use Prim.Native.Nat.{ℕ};
-ghost use Rattle.target.specs.Checked.{Checked, Counted};
+ghost use Rattle.target.specs.Checked.{Checked, Counted, byOrdinal};
 ghost use Rattle.fixup.specs.Record.{typedOf};
-ghost use Rattle.fixup.specs.Target.{byOrdinal, entryTarget};
+ghost use Rattle.fixup.specs.Target.{entryTarget};
 ghost use Rattle.fixup.specs.Action.{ofType, actionOf};
 
 // What a record asks for, where the entry table is known to be sound.

@@ -5,9 +5,8 @@ use mathlib.Core.Bool.{true}
 use denote.Ref.{now}
 use Rattle.tables.specs.Table.{Sound}
 use Rattle.entry.specs.Ordinal.{tableBytes, inTable, ordinalIn}
-use Rattle.fixup.specs.Target.{byOrdinal}
 use borrow.Author.Needs.{needs}
-use Rattle.target.specs.Checked.{Checked, Counted}
+use Rattle.target.specs.Checked.{Checked, byOrdinal}
 use Rattle.target.proofs.Entries.{by-entry, counted}
 use Rattle.target.proofs.action.Statement.{statement}
 use Rattle.target.proofs.action.Tie as tie

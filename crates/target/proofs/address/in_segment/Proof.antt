@@ -1,6 +1,5 @@
 -- `target::address::in_segment` meets its contract: a segment has a selector that is there.
 -- Assumes nothing.
-use native.Mathlib.Omega.{arith}
 use borrow.Author.Tests.{lt-ltb, le-ltb}
 use borrow.Author.Needs.{needs}
 use Rattle.target.proofs.address.in_segment.Statement.{statement}

@@ -13,8 +13,9 @@ use Rattle.header.specs.declared.Header.{Header}
 use Rattle.imports.specs.Module.{stringAt}
 use Rattle.fixup.specs.declared.Record.{Record}
 use Rattle.fixup.specs.declared.Target.the-variants.{Import}
-use Rattle.fixup.specs.Target.{byOrdinal, segmentTarget, importTarget, internalTarget, nameTarget, targetOf}
+use Rattle.fixup.specs.Target.{segmentTarget, importTarget, internalTarget, nameTarget, targetOf}
 use borrow.Author.Needs.{needs}
+use Rattle.target.specs.Checked.{byOrdinal}
 use Rattle.target.proofs.address.of_other.Statement.{statement}
 use Rattle.target.proofs.address.of_other.Tie as tie
 
