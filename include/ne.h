@@ -51,6 +51,30 @@
 extern "C" {
 #endif
 
+/* The headers of a module: where its tables stand. */
+struct ne_header_result {
+    uint32_t refusal;
+    uint32_t header_at;       /* the place of the NE header */
+    uint32_t unit;            /* the bytes of a sector: 2 to the alignment shift */
+    uint32_t segments_at;     /* the place of the segment table */
+    uint32_t segments;        /* how many segments it has, 0 to 65,535: as many selectors ne_prepare needs */
+    uint32_t modules_at;      /* the place of the module references */
+    uint32_t modules;         /* how many there are, 0 to 65,535 */
+    uint32_t entries_at;      /* the place of the entry table */
+    uint32_t entries_len;     /* its bytes, 0 to 65,535 */
+    uint32_t nonresident_at;  /* the place of the nonresident names */
+    uint32_t nonresident_len; /* their bytes, 0 to 65,535 */
+    uint32_t resident_at;     /* the place of the resident names */
+    uint32_t imported_at;     /* the place of the imported names */
+    uint32_t resources_at;    /* the place of the resource table */
+};
+
+/*
+ * Reads and checks the headers. A table whose size is 0 may be said to stand anywhere, and the last three may leave the image:
+ * whoever reads one of them checks it. Refusals: 1 to 7.
+ */
+struct ne_header_result ne_header(const uint8_t *image, size_t image_len);
+
 /* One record of the segment table. */
 struct ne_segment_result {
     uint32_t refusal;
@@ -77,6 +101,22 @@ struct ne_ordinal_result {
  * is, then 15.
  */
 struct ne_ordinal_result ne_ordinal(const uint8_t *image, size_t image_len, uint32_t number);
+
+/*
+ * Lists the entries of all ordinals, a line each, as the program `list` does but for an image of any size:
+ *
+ *      ordinals 4          how many ordinals there are, those without an entry too
+ *      1 1:0010 01         ordinal, segment:offset, flag
+ *      4 2:0020 03
+ *      end
+ *
+ * or one line, `refused 12` for example: 1 to 7, then 12 to 14. The lines go to the front of `text`, as much of them as fits,
+ * with no byte 0 behind them, and the rest of `text` stays as it came. Returns the length of all lines, so that a first call
+ * with no room tells how much a second one needs.
+ *
+ * `text` must not overlap the image.
+ */
+size_t ne_list(const uint8_t *image, size_t image_len, uint8_t *text, size_t text_len);
 
 /* One string of the resident or the nonresident names. */
 struct ne_name_result {
@@ -138,7 +178,7 @@ struct ne_prepare_result {
 
 /*
  * Prepares the segment of a number, counted from 1: its stored bytes, zeros up to its allocation, and all its fixups done.
- * `selectors` has one for each segment of the module, as many as the word at 1Ch of the NE header says. `answers` has one
+ * `selectors` has one for each segment of the module, as many as ne_header says. `answers` has one
  * for each record of this segment, whatever its kind: that of record n, counted from 1, is answers[n - 1], and is read where
  * the record is an import, with the offset in the low word and the selector in the high word. ne_segment gives the number of
  * records, the allocation and the number of stored bytes. Longer lists are fine.

@@ -62,11 +62,14 @@ sets-empty at (t ∷ text) = sets-empty (suc at) text
 min-suc : (a b : ℕ) → min (suc a) (suc b) ≡ suc (min a b)
 min-suc a b = omega arith
 
-pub from-front : (l text : List ℕ) → sets l 0 text ≡ copied text l
-from-front [] text =
+front-copied : (l text : List ℕ) → sets l 0 text ≡ copied text l
+front-copied [] text =
     let none : min (length text) 0 ≡ 0 = omega arith in
     rw none (sets-empty 0 text)
-from-front (x ∷ l) [] =
+front-copied (x ∷ l) [] =
     let none : min 0 (suc (length l)) ≡ 0 = omega arith in
     rw none
-from-front (x ∷ l) (t ∷ text) = sets-cons t l 0 text ∙ rw (min-suc (length text) (length l)) (ap (t ∷_) (from-front l text))
+front-copied (x ∷ l) (t ∷ text) = sets-cons t l 0 text ∙ rw (min-suc (length text) (length l)) (ap (t ∷_) (front-copied l text))
+
+pub from-front : {out text after : List ℕ} {end : ℕ} → Wrote out 0 text after end → (after ≡ copied text out) × (end ≡ length text)
+from-front {out} {text} {after} {end} w = (w .bytes ∙ front-copied out text, omega (arith, w .place))

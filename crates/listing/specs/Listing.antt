@@ -57,9 +57,13 @@ entriesOf image h =
     let table = tableBytes image h in
     tableListing table (tableOf table (h .segments .count))
 
+-- The lines of an image of any size.
+unfoldable pub linesOf : List ℕ → List ℕ
+linesOf image = onHeader (headerOf image) refusedOf λ h. entriesOf image h
+
 -- "The listing program reads an image of at most 65,536 bytes (else the line `too long`)".
 unfoldable pub listingOf : List ℕ → List ℕ
-listingOf image = cond (ltb 65536 (length image)) (ascii "too long\n") (onHeader (headerOf image) refusedOf λ h. entriesOf image h)
+listingOf image = cond (ltb 65536 (length image)) (ascii "too long\n") (linesOf image)
 
 -- No listing is longer: an entry takes 3 bytes of the table at least and its line at most 20, so 7 bytes for each byte of the
 -- image are enough, and the first line and the last have at most 19 together.

@@ -4,6 +4,7 @@ use Prim.Native.Nat.{ℕ, _^_, _<_}
 use mathlib.Core.List.{List, [], _∷_}
 use Rattle.names.specs.declared.Answer as names
 use Rattle.names.specs.declared.Answer.the-variants.{Accepted, Refused}
+use Rattle.ne.specs.declared.NeHeader.{NeHeader}
 use Rattle.ne.specs.declared.NeSegment.{NeSegment}
 use Rattle.ne.specs.declared.NeOrdinal.{NeOrdinal}
 use Rattle.ne.specs.declared.NeName.{NeName}
@@ -12,6 +13,24 @@ use Rattle.ne.specs.declared.NeResource.{NeResource}
 use Rattle.ne.specs.declared.NePrepare.{NePrepare}
 use Rattle.prepare.specs.Prepare.{Request, prepareOf, answerOf, valuesOf}
 use Rattle.prepare.specs.Promise.{Promise}
+
+abbrev pub headerFields : NeHeader → List ℕ
+headerFields r =
+    r .refusal
+    ∷ r .«header_at»
+    ∷ r .unit
+    ∷ r .«segments_at»
+    ∷ r .segments
+    ∷ r .«modules_at»
+    ∷ r .modules
+    ∷ r .«entries_at»
+    ∷ r .«entries_len»
+    ∷ r .«nonresident_at»
+    ∷ r .«nonresident_len»
+    ∷ r .«resident_at»
+    ∷ r .«imported_at»
+    ∷ r .«resources_at»
+    ∷ []
 
 abbrev pub segmentFields : NeSegment → List ℕ
 segmentFields r = r .refusal ∷ r .start ∷ r .stored ∷ r .flags ∷ r .allocation ∷ r .records ∷ []

@@ -2,6 +2,9 @@
 mod results;
 
 ghost use mathlib.Core.Path.{_≡_};
+ghost use Rattle.le.specs.Slice.{copied};
+ghost use Rattle.header.specs.Header.{headerOf};
+ghost use Rattle.header.specs.Values as header;
 ghost use Rattle.segment.specs.Segment.{segmentOf};
 ghost use Rattle.segment.specs.Values as segment;
 ghost use Rattle.entry.specs.Ordinal.{ordinalOf};
@@ -15,7 +18,26 @@ ghost use Rattle.resources.specs.Values as resources;
 ghost use lib.ListN.{length};
 ghost use Rattle.prepare.specs.Prepare.{requestOf};
 ghost use Rattle.prepare.specs.Step.{stepOf, oneOf};
-ghost use Rattle.ne.specs.Fields.{segmentFields, ordinalFields, nameFields, moduleFields, resourceFields, Prepares};
+ghost use Rattle.listing.specs.Listing.{linesOf};
+ghost use Rattle.ne.specs.Fields.{headerFields, segmentFields, ordinalFields, nameFields, moduleFields, resourceFields, Prepares};
+
+#[repr(C)]
+pub struct NeHeader {
+    pub refusal: u32,
+    pub header_at: u32,
+    pub unit: u32,
+    pub segments_at: u32,
+    pub segments: u32,
+    pub modules_at: u32,
+    pub modules: u32,
+    pub entries_at: u32,
+    pub entries_len: u32,
+    pub nonresident_at: u32,
+    pub nonresident_len: u32,
+    pub resident_at: u32,
+    pub imported_at: u32,
+    pub resources_at: u32,
+}
 
 #[repr(C)]
 pub struct NeSegment {
@@ -67,6 +89,13 @@ pub struct NePrepare {
     pub refusal: u32,
     pub record: u32,
     pub sites: u32,
+}
+
+#[no_mangle]
+pub extern "C" fn ne_header(image: &[u8]) -> NeHeader
+    ensures { λ r. ⌜ headerFields r ≡ header.valuesOf (headerOf (now (image .entry))) ⌝ }
+{
+    results::header(header::read(image))
 }
 
 #[no_mangle]
@@ -201,4 +230,11 @@ pub extern "C" fn ne_step(
     ensures { λ _. ⌜ now (buffer .exit) ≡ stepOf (now (image .entry)) (now (selectors .entry)) (oneOf (now (fixup .entry)) answer) (now (buffer .entry)) ⌝ }
 {
     loader::step(image, fixup, answer, selectors, buffer)
+}
+
+#[no_mangle]
+pub extern "C" fn ne_list(image: &[u8], text: &mut [u8]) -> usize
+    ensures { λ r. ⌜ (now (text .exit) ≡ copied (linesOf (now (image .entry))) (now (text .entry))) × (r ≡ length (linesOf (now (image .entry)))) ⌝ }
+{
+    listing::of_any_size(image, text)
 }

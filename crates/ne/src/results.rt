@@ -1,12 +1,53 @@
-// The results that two calls share, and that of preparing.
+// The results that two calls share, and those of the header and of preparing.
+use crate::NeHeader;
 use crate::NeName;
 use crate::NePrepare;
 use crate::NeResource;
 ghost use mathlib.Core.Path.{_≡_};
+ghost use Rattle.header.specs.Values as header;
 ghost use Rattle.names.specs.Values as names;
 ghost use Rattle.resources.specs.Values as resources;
 ghost use Rattle.prepare.specs.Prepare as prepared;
-ghost use Rattle.ne.specs.Fields.{NameFits, nameFields, resourceFields, prepareFields};
+ghost use Rattle.ne.specs.Fields.{NameFits, headerFields, nameFields, resourceFields, prepareFields};
+
+pub fn header(answer: header::Answer) -> NeHeader
+    ensures { λ r. ⌜ headerFields r ≡ header.valuesOf answer ⌝ }
+{
+    match answer {
+        header::Answer::Refused(why) => NeHeader {
+            refusal: refusal::number(why),
+            header_at: 0,
+            unit: 0,
+            segments_at: 0,
+            segments: 0,
+            modules_at: 0,
+            modules: 0,
+            entries_at: 0,
+            entries_len: 0,
+            nonresident_at: 0,
+            nonresident_len: 0,
+            resident_at: 0,
+            imported_at: 0,
+            resources_at: 0,
+        },
+        header::Answer::Accepted(h) => NeHeader {
+            refusal: 0,
+            header_at: h.ne,
+            unit: h.unit,
+            segments_at: h.segments.at,
+            segments: h.segments.count,
+            modules_at: h.modules.at,
+            modules: h.modules.count,
+            entries_at: h.entries.at,
+            entries_len: h.entries.count,
+            nonresident_at: h.nonresident.at,
+            nonresident_len: h.nonresident.count,
+            resident_at: h.resident,
+            imported_at: h.imported,
+            resources_at: h.resources,
+        },
+    }
+}
 
 pub fn name(answer: names::Answer) -> NeName
     requires { ⌜ NameFits answer ⌝ }
