@@ -27,6 +27,16 @@ impl fmt::Display for Refused {
 
 impl Error for Refused {}
 
+/// A refusal that is at no record.
+impl From<Refusal> for Refused {
+    fn from(refusal: Refusal) -> Refused {
+        Refused {
+            refusal,
+            record: None,
+        }
+    }
+}
+
 /// A segment with all its fixups done.
 #[derive(Clone, Debug, PartialEq, Eq)]
 pub struct Prepared {

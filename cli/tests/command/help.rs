@@ -1,0 +1,56 @@
+//! The help texts.
+
+use crate::run::{says, Folder};
+
+pub const COMMANDS: [&str; 10] = [
+    "check", "info", "list", "segment", "ordinal", "name", "module", "resource", "prepare",
+    "explain",
+];
+
+#[test]
+fn all_commands_are_in_the_help() {
+    let folder = Folder::new();
+    let answer = folder.ne(&["--help"]);
+    assert_eq!((answer.status, answer.errors.as_str()), (Some(0), ""));
+    assert!(answer.output.starts_with("usage: ne COMMAND ...\n"));
+    let lines = answer.output.lines();
+    let listed = lines.filter_map(|line| line.strip_prefix("  ")?.split(' ').next());
+    assert!(listed.eq(COMMANDS), "{}", answer.output);
+    assert_eq!(folder.ne(&["-h"]), answer);
+}
+
+#[test]
+fn help_of_a_command() {
+    let expected = "usage: ne name FILE (NAME | --number N)
+
+Shows a name's number, text, ordinal and place. NAME is compared byte by byte and case matters; the first string of
+each of the two lists is found by its number only. Behind -- a NAME may start with a hyphen.
+
+options:
+  --number N        The name of this number: resident names first, then nonresident ones.
+  --help            This help.
+";
+    assert_eq!(Folder::new().ne(&["name", "--help"]), says(0, expected));
+}
+
+/// Help needs no operands, and wins over wrong ones.
+#[test]
+fn each_command_has_help() {
+    let folder = Folder::new();
+    for command in COMMANDS {
+        let answer = folder.ne(&[command, "--help"]);
+        assert_eq!((answer.status, answer.errors.as_str()), (Some(0), ""));
+        let usage = format!("usage: ne {command} ");
+        assert!(answer.output.starts_with(&usage), "{}", answer.output);
+        let own = "  --help            This help.\n";
+        assert!(answer.output.ends_with(own), "{}", answer.output);
+        assert_eq!(folder.ne(&[command, "-h"]), answer);
+        assert_eq!(folder.ne(&[command, "1", "2", "3", "4", "--help"]), answer);
+    }
+}
+
+#[test]
+fn version() {
+    let expected = format!("ne {}\n", env!("CARGO_PKG_VERSION"));
+    assert_eq!(Folder::new().ne(&["--version"]), says(0, &expected));
+}
