@@ -47,25 +47,24 @@ impl Arguments {
         rest: &mut impl Iterator<Item = OsString>,
     ) -> Result<(), Failure> {
         let (name, joined) = split(argument);
-        let option = self.command.option(name).ok_or_else(|| {
-            self.wrong(format_args!(
-                "unknown option '{}'",
-                escaped(name.as_bytes())
-            ))
-        })?;
+        let unknown = || format!("unknown option '{}'", escaped(name.as_bytes()));
+        let option = self
+            .command
+            .option(name)
+            .ok_or_else(|| self.wrong(unknown()))?;
+        let wrong = |what| Err(self.wrong(format_args!("{} {what}", option.name)));
         if self.has(option.name) {
-            return Err(self.wrong(format_args!("{} is given twice", option.name)));
+            return wrong("is given twice");
         }
         let value = match (option.value, joined) {
             (None, None) => Some(OsString::new()),
-            (None, Some(_)) => {
-                return Err(self.wrong(format_args!("{} takes no value", option.name)))
-            }
+            (None, Some(_)) => return wrong("takes no value"),
             (Some(_), Some(value)) => Some(value.to_os_string()),
             (Some(_), None) => rest.next().filter(|value| !is_option(value)),
         };
-        let missing = || self.wrong(format_args!("{} needs a value", option.name));
-        let value = value.ok_or_else(missing)?;
+        let Some(value) = value else {
+            return wrong("needs a value");
+        };
         self.options.push((option.name, value));
         Ok(())
     }

@@ -10,6 +10,7 @@ use crate::failure::Failure;
 use crate::output::Output;
 use crate::status::Status;
 use std::ffi::OsStr;
+use std::os::unix::ffi::OsStrExt;
 
 pub struct Command {
     pub name: &'static str,
@@ -46,7 +47,7 @@ impl Command {
     pub fn named(name: &OsStr) -> Result<&'static Command, Failure> {
         let found = COMMANDS.iter().find(|command| name == command.name);
         let unknown = || {
-            let name = escaped(name.as_encoded_bytes());
+            let name = escaped(name.as_bytes());
             let what = if name.starts_with('-') {
                 "option"
             } else {

@@ -5,6 +5,7 @@ use crate::escape::escaped;
 use std::ffi::OsStr;
 use std::fmt::Display;
 use std::io::{self, Write};
+use std::os::unix::ffi::OsStrExt;
 
 /// The lines for standard error, each ended; none where nobody reads them.
 #[derive(Debug, PartialEq, Eq)]
@@ -29,10 +30,7 @@ impl Failure {
 
     /// A file could not be read or written.
     pub fn of_file(path: &OsStr, reason: impl Display) -> Self {
-        Failure::new(format_args!(
-            "{}: {reason}",
-            escaped(path.as_encoded_bytes())
-        ))
+        Failure::new(format_args!("{}: {reason}", escaped(path.as_bytes())))
     }
 
     /// Standard output could not be written. Whoever closed its other end has

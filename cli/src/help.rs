@@ -8,10 +8,16 @@ use crate::status::Status;
 use std::ffi::OsString;
 
 const INTRODUCTION: &str = "\
-Reads 16-bit Windows modules (NE: drivers, libraries and programs of Windows 1 to 3) and prepares their segments.
-FILE is a module of at most 16,777,216 bytes, or - for standard input. Numbers are decimal, or hexadecimal behind 0x.";
+Reads 16-bit Windows modules (NE: drivers, libraries and programs of Windows 1
+to 3) and prepares their segments for loading. FILE is a module of at most
+16,777,216 bytes, or - for standard input. Numbers are decimal, or hexadecimal
+behind 0x.";
 const ENDING: &str = "\
-Exit status: 0 accepted, 1 something was refused, 2 something could not be read or written, or a wrong command line.";
+'ne COMMAND --help' says more of each; 'ne --version' gives the version.
+
+exit status:
+  0 if all was accepted, 1 if something was refused, 2 if something could not be
+  read or written or if the command line is wrong";
 
 /// `ne --help`.
 pub fn all(rest: impl Iterator<Item = OsString>, output: &mut Output) -> Result<Status, Failure> {
@@ -23,10 +29,7 @@ pub fn all(rest: impl Iterator<Item = OsString>, output: &mut Output) -> Result<
     for command in &COMMANDS {
         writeln!(output, "  {:<9} {}", command.name, command.summary)?;
     }
-    writeln!(
-        output,
-        "\n'ne COMMAND --help' says more of each; 'ne --version' gives the version.\n{ENDING}"
-    )?;
+    writeln!(output, "\n{ENDING}")?;
     Ok(Status::Accepted)
 }
 

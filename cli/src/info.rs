@@ -13,6 +13,7 @@ use crate::output::Output;
 use crate::read;
 use crate::status::Status;
 use parchgable::Image;
+use std::os::unix::ffi::OsStrExt;
 
 /// Names and resources are asked for one by one, and each question goes over
 /// the whole table, which may fill the file. So the bytes that are gone over
@@ -29,7 +30,7 @@ pub fn run(arguments: &Arguments, output: &mut Output) -> Result<Status, Failure
         false => LEAST_ROWS.max(WORK / file.len().max(1)),
     };
     let image = Image::new(&file);
-    let name = escaped(path.as_encoded_bytes());
+    let name = escaped(path.as_bytes());
     match image.header() {
         Err(refusal) => {
             writeln!(output, "{name}: {refusal}")?;

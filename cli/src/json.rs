@@ -36,16 +36,16 @@ impl Display for Object {
     }
 }
 
-/// A string in quotes. Control characters are escaped, those over 7Fh too: a
-/// terminal may obey them.
+/// A string in quotes, of printable ASCII alone: what other characters do to a
+/// line or a terminal need not be known.
 fn string(text: &str) -> String {
     let mut string = String::from("\"");
-    for character in text.chars() {
-        match character {
-            '"' | '\\' => string.extend(['\\', character]),
+    for unit in text.encode_utf16() {
+        match u8::try_from(unit) {
+            Ok(byte @ (b'"' | b'\\')) => string.extend(['\\', char::from(byte)]),
+            Ok(byte @ b' '..=b'~') => string.push(char::from(byte)),
             // Writing to a string can't fail.
-            _ if character.is_control() => _ = write!(string, "\\u{:04X}", u32::from(character)),
-            _ => string.push(character),
+            _ => _ = write!(string, "\\u{unit:04X}"),
         }
     }
     string + "\""

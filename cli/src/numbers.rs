@@ -13,14 +13,17 @@ pub fn number(text: &[u8], most: u32) -> Result<u32, String> {
         Some(digits) => (digits, 16),
         None => (text, 10),
     };
-    let value = |digit: &u8| char::from(*digit).to_digit(radix).map(u64::from);
-    let digits: Option<Vec<u64>> = digits.iter().map(value).collect();
-    let Some(digits) = digits.filter(|digits| !digits.is_empty()) else {
-        return Err(format!("'{}' is not a number", shown(text)));
-    };
     // What is over 32 bits stays over 32 bits, however many digits follow.
-    let add = |number: u64, digit: u64| (number * u64::from(radix) + digit).min(1 << 32);
-    match u32::try_from(digits.into_iter().fold(0, add)) {
+    let add = |number: u64, digit: &u8| {
+        let digit = char::from(*digit).to_digit(radix)?;
+        Some((number * u64::from(radix) + u64::from(digit)).min(1 << 32))
+    };
+    let value = match digits {
+        [] => None,
+        _ => digits.iter().try_fold(0, add),
+    };
+    let value = value.ok_or_else(|| format!("'{}' is not a number", shown(text)))?;
+    match u32::try_from(value) {
         Ok(number) if number <= most => Ok(number),
         _ => Err(format!("{} is over {most} (0x{most:X})", shown(text))),
     }

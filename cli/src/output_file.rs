@@ -13,6 +13,7 @@ const TRIES: u32 = 1000;
 pub struct OutputFile {
     place: PathBuf,
     temporary: PathBuf,
+    committed: bool,
 }
 
 impl OutputFile {
@@ -20,7 +21,11 @@ impl OutputFile {
     pub fn write(place: &Path, content: &[u8]) -> io::Result<Self> {
         let (place, permissions) = existing(place)?;
         let (temporary, mut file) = create_beside(&place)?;
-        let output = OutputFile { place, temporary };
+        let output = OutputFile {
+            place,
+            temporary,
+            committed: false,
+        };
         if let Some(permissions) = permissions {
             file.set_permissions(permissions)?;
         }
@@ -30,16 +35,20 @@ impl OutputFile {
     }
 
     /// Puts the content into its place.
-    pub fn commit(self) -> io::Result<()> {
-        fs::rename(&self.temporary, &self.place)
+    pub fn commit(mut self) -> io::Result<()> {
+        fs::rename(&self.temporary, &self.place)?;
+        self.committed = true;
+        Ok(())
     }
 }
 
 impl Drop for OutputFile {
     fn drop(&mut self) {
-        // After a commit there is nothing to remove; otherwise the failure that
-        // led here is told.
-        let _ = fs::remove_file(&self.temporary);
+        // After a commit the name is free, and may be another's.
+        if !self.committed {
+            // The failure that led here is told, and not that this fails too.
+            let _ = fs::remove_file(&self.temporary);
+        }
     }
 }
 
@@ -65,14 +74,12 @@ fn existing(place: &Path) -> io::Result<(PathBuf, Option<Permissions>)> {
 /// A new file in the folder of the place. Its name is short, so that it is no
 /// longer than a folder allows where the place's own name is long.
 fn create_beside(place: &Path) -> io::Result<(PathBuf, File)> {
-    let name = |number| format!(".ne-{}-{number}.tmp", process::id());
+    let mut options = OpenOptions::new();
+    options.write(true).create_new(true);
     for number in 0..TRIES {
-        let temporary = place.with_file_name(name(number));
-        match OpenOptions::new()
-            .write(true)
-            .create_new(true)
-            .open(&temporary)
-        {
+        let name = format!(".ne-{}-{number}.tmp", process::id());
+        let temporary = place.with_file_name(name);
+        match options.open(&temporary) {
             Ok(file) => return Ok((temporary, file)),
             Err(error) if error.kind() == io::ErrorKind::AlreadyExists => {}
             Err(error) => return Err(error),

@@ -7,7 +7,8 @@ use crate::numbers::count;
 use crate::output::Output;
 use crate::read;
 use crate::status::Status;
-use parchgable::{Image, Refusal};
+use parchgable::{Image, Name, Refusal, Resource};
+use std::os::unix::ffi::OsStrExt;
 
 pub fn segment(arguments: &Arguments, output: &mut Output) -> Result<Status, Failure> {
     let number = arguments.number(arguments.operand(1))?;
@@ -36,26 +37,29 @@ pub fn ordinal(arguments: &Arguments, output: &mut Output) -> Result<Status, Fai
 }
 
 pub fn name(arguments: &Arguments, output: &mut Output) -> Result<Status, Failure> {
-    let number = arguments.value("--number");
-    let number = number.map(|text| arguments.number(text)).transpose()?;
-    let text = arguments.operands().get(1);
-    let text = text.map(|text| text.as_encoded_bytes());
-    if number.is_some() == text.is_some() {
-        return Err(arguments.wrong("give either NAME or --number"));
+    match (arguments.value("--number"), arguments.operands().get(1)) {
+        (Some(number), None) => {
+            let number = arguments.number(number)?;
+            answer(arguments, output, |image| image.name(number).map(of_name))
+        }
+        (None, Some(text)) => {
+            let text = text.as_bytes();
+            answer(arguments, output, |image| {
+                image.find_name(text).map(of_name)
+            })
+        }
+        _ => Err(arguments.wrong("give either NAME or --number")),
     }
-    answer(arguments, output, |image| {
-        let name = match number {
-            Some(number) => image.name(number)?,
-            None => image.find_name(text.unwrap_or_default())?,
-        };
-        Ok(format!(
-            "name {}: {}, ordinal {}, text at {}",
-            name.number,
-            escaped(name.text),
-            name.ordinal,
-            name.text_at
-        ))
-    })
+}
+
+fn of_name(name: Name) -> String {
+    format!(
+        "name {}: {}, ordinal {}, text at {}",
+        name.number,
+        escaped(name.text),
+        name.ordinal,
+        name.text_at
+    )
 }
 
 pub fn module(arguments: &Arguments, output: &mut Output) -> Result<Status, Failure> {
@@ -72,22 +76,28 @@ pub fn module(arguments: &Arguments, output: &mut Output) -> Result<Status, Fail
 
 pub fn resource(arguments: &Arguments, output: &mut Output) -> Result<Status, Failure> {
     let first = arguments.number(arguments.operand(1))?;
-    let id = arguments.operands().get(2);
-    let id = id.map(|text| arguments.number(text)).transpose()?;
-    answer(arguments, output, |image| {
-        let resource = match id {
-            Some(id) => image.find_resource(first, id)?,
-            None => image.resource(first)?,
-        };
-        Ok(format!(
-            "resource type 0x{:04X}, id 0x{:04X}: {} at {}, flags 0x{:04X}",
-            resource.kind,
-            resource.id,
-            count(resource.data.len(), "byte"),
-            resource.data_at,
-            resource.flags
-        ))
-    })
+    match arguments.operands().get(2) {
+        Some(id) => {
+            let id = arguments.number(id)?;
+            answer(arguments, output, |image| {
+                image.find_resource(first, id).map(of_resource)
+            })
+        }
+        None => answer(arguments, output, |image| {
+            image.resource(first).map(of_resource)
+        }),
+    }
+}
+
+fn of_resource(resource: Resource) -> String {
+    format!(
+        "resource type 0x{:04X}, id 0x{:04X}: {} at {}, flags 0x{:04X}",
+        resource.kind,
+        resource.id,
+        count(resource.data.len(), "byte"),
+        resource.data_at,
+        resource.flags
+    )
 }
 
 /// Asks the file that is named first, and writes the answer's line.

@@ -4,6 +4,7 @@ use super::verdict::{Accepted, Outcome, Verdict};
 use crate::json::Object;
 use parchgable::Refused;
 use std::ffi::OsStr;
+use std::os::unix::ffi::OsStrExt;
 
 pub fn object(file: &OsStr, verdict: &Verdict) -> Object {
     let object = named(file).string("status", word(verdict.outcome()));
@@ -34,7 +35,7 @@ fn named(file: &OsStr) -> Object {
     let object = Object::default().string("file", &file.to_string_lossy());
     match file.to_str() {
         Some(_) => object,
-        None => object.string("file_hex", &hex(file.as_encoded_bytes())),
+        None => object.string("file_hex", &hex(file.as_bytes())),
     }
 }
 

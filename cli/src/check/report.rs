@@ -7,10 +7,11 @@ use crate::numbers::count;
 use crate::output::Output;
 use parchgable::Refused;
 use std::ffi::OsStr;
+use std::os::unix::ffi::OsStrExt;
 
 /// Writes a file's lines. One that was not read has none here.
 pub fn write(file: &OsStr, verdict: &Verdict, output: &mut Output) -> Result<(), Failure> {
-    let file = escaped(file.as_encoded_bytes());
+    let file = escaped(file.as_bytes());
     match verdict {
         Verdict::Unread(_) => Ok(()),
         Verdict::Header(refusal) => writeln!(output, "{file}: {refusal}"),

@@ -14,8 +14,11 @@ fn all_commands_are_in_the_help() {
     assert_eq!((answer.status, answer.errors.as_str()), (Some(0), ""));
     assert!(answer.output.starts_with("usage: ne COMMAND ...\n"));
     let lines = answer.output.lines();
+    let lines = lines.skip_while(|line| *line != "commands:").skip(1);
+    let lines = lines.take_while(|line| !line.is_empty());
     let listed = lines.filter_map(|line| line.strip_prefix("  ")?.split(' ').next());
     assert!(listed.eq(COMMANDS), "{}", answer.output);
+    assert!(answer.output.lines().all(|line| line.len() <= 80));
     assert_eq!(folder.ne(&["-h"]), answer);
 }
 
@@ -23,11 +26,12 @@ fn all_commands_are_in_the_help() {
 fn help_of_a_command() {
     let expected = "usage: ne name FILE (NAME | --number N)
 
-Shows a name's number, text, ordinal and place. NAME is compared byte by byte and case matters; the first string of
-each of the two lists is found by its number only. Behind -- a NAME may start with a hyphen.
+Shows a name's number, text, ordinal and place. NAME is compared byte by byte,
+and case matters; the first string of each of the two lists is found by its
+number only. Behind -- a NAME may start with a hyphen.
 
 options:
-  --number N        The name of this number: resident names first, then nonresident ones.
+  --number N        The name of this number; resident names come first.
   --help            This help.
 ";
     assert_eq!(Folder::new().ne(&["name", "--help"]), says(0, expected));
@@ -42,6 +46,8 @@ fn each_command_has_help() {
         assert_eq!((answer.status, answer.errors.as_str()), (Some(0), ""));
         let usage = format!("usage: ne {command} ");
         assert!(answer.output.starts_with(&usage), "{}", answer.output);
+        let longest = answer.output.lines().map(str::len).max();
+        assert!(longest <= Some(80), "{}", answer.output);
         let own = "  --help            This help.\n";
         assert!(answer.output.ends_with(own), "{}", answer.output);
         assert_eq!(folder.ne(&[command, "-h"]), answer);

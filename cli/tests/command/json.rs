@@ -86,15 +86,15 @@ fn several_files() {
 #[test]
 fn names_of_files() {
     let folder = Folder::new();
-    let names: [&[u8]; 2] = [b"a\"\\\n\x1B\x7F\xC2\x9B \xC3\xA9", b"caf\xC3\xA9\xFF"];
-    let names = names.map(OsStr::from_bytes);
+    let odd = "a\"\\\n\x1B\x7F\u{9B} \u{E9}\u{2028}\u{1F4BE}";
+    let names = [OsStr::new(odd), OsStr::from_bytes(b"caf\xC3\xA9\xFF")];
     for name in names {
         folder.put(name, b"");
     }
     let arguments = [&["check", "--json"].map(OsStr::new), &names[..]].concat();
     let refused = r#""status":"refused","refusal":1,"text":"the file has under 64 bytes"}"#;
-    let first = r#"{"file":"a\"\\\u000A\u001B\u007F\u009B é","#;
-    let second = "{\"file\":\"caf\u{E9}\u{FFFD}\",\"file_hex\":\"636166C3A9FF\",";
+    let first = r#"{"file":"a\"\\\u000A\u001B\u007F\u009B \u00E9\u2028\uD83D\uDCBE","#;
+    let second = r#"{"file":"caf\u00E9\uFFFD","file_hex":"636166C3A9FF","#;
     let expected = format!("{first}{refused}\n{second}{refused}\n");
     assert_eq!(folder.ne(&arguments), says(1, &expected));
 }

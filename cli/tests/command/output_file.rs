@@ -4,6 +4,7 @@ use crate::module::Module;
 use crate::run::{fails, says, Answer, Folder};
 use std::fs::{self, OpenOptions, Permissions};
 use std::os::unix::fs::{symlink, PermissionsExt};
+use std::process::Command;
 
 const PREPARED: [u8; 10] = [0, 0, 0x34, 0x12, 0xAA, 0xBB, 0x34, 0x12, 0, 0];
 
@@ -109,21 +110,18 @@ fn kept_when_standard_output_is_full() {
 fn places_that_cannot_be_written() {
     let folder = Folder::with_sample();
     fs::create_dir(folder.path("folder")).expect("a folder");
+    let made = Command::new("mkfifo").arg(folder.path("fifo")).status();
+    assert!(made.expect("a command that runs").success());
     let to = |place: &str| prepare(&folder, "1", &["-o", place]);
     let missing = "ne: nowhere/out: No such file or directory (os error 2)\n";
     assert_eq!(to("nowhere/out"), fails(missing));
     let below = "ne: s.drv/out: Not a directory (os error 20)\n";
     assert_eq!(to("s.drv/out"), fails(below));
     assert_eq!(to("folder"), fails("ne: folder: not a regular file\n"));
-    assert_eq!(
-        to("/dev/null"),
-        fails("ne: /dev/null: not a regular file\n")
-    );
+    assert_eq!(to("fifo"), fails("ne: fifo: not a regular file\n"));
     assert_eq!(
         to(""),
         fails("ne: : No such file or directory (os error 2)\n")
     );
-    assert_eq!(folder.names(), ["folder", "s.drv"]);
-    let found = fs::metadata("/dev/null").expect("a device");
-    assert!(!found.is_file());
+    assert_eq!(folder.names(), ["fifo", "folder", "s.drv"]);
 }
