@@ -5,6 +5,8 @@ use crate::bytes::{dword, part, word};
 /// The fields of the NE header that are read. Every place here is already
 /// counted from the file's start.
 pub struct Header {
+    /// The dword at 3Ch of the image: the NE header itself.
+    pub header_at: u64,
     /// NE 04: the entry table.
     pub entry_at: u64,
     /// NE 06: the entry table's bytes.
@@ -76,6 +78,7 @@ fn fields(ne: &[u8], place: u64) -> Option<Header> {
     let number = |at| word(ne, at).map(u64::from);
     let table = |at| number(at).map(|from_header| place + from_header);
     Some(Header {
+        header_at: place,
         entry_at: table(0x04)?,
         entry_bytes: number(0x06)?,
         segment_count: number(0x1C)?,

@@ -20,12 +20,14 @@ mod prepare;
 mod resources;
 mod segment;
 mod step;
+mod tables;
 
 pub use entry::{ordinal, Entry};
-pub use listing::listing;
+pub use listing::{list, listing};
 pub use modules::{module, Module};
 pub use names::{name_by_bytes, name_by_number, Name};
 pub use prepare::{prepare, Refused};
 pub use resources::{resource_by_number, resource_by_words, Resource};
 pub use segment::{segment, Segment};
 pub use step::step;
+pub use tables::{tables, Tables};

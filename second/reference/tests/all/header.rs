@@ -11,6 +11,7 @@ pub fn all_calls(image: &[u8]) -> Vec<u32> {
     let mut marks = [0; 64];
     let prepared = prepare(image, 1, &[7; 8], &[7; 8], &mut output, &mut marks);
     vec![
+        number(tables(image).err()),
         number(segment(image, 1).err()),
         number(ordinal(image, 1).err()),
         number(name_by_number(image, 1).err()),
@@ -24,10 +25,13 @@ pub fn all_calls(image: &[u8]) -> Vec<u32> {
 
 /// Every call refuses with this number, and so does the listing.
 fn all_refuse(image: &[u8], refusal: u32) {
-    assert_eq!(all_calls(image), vec![refusal; 8]);
+    assert_eq!(all_calls(image), vec![refusal; 9]);
+    let line = format!("refused {refusal}\n");
+    let mut room = vec![0; line.len()];
+    assert_eq!(list(image, &mut room), line.len());
+    assert_eq!(room, line.as_bytes());
     if image.len() <= 65_536 {
-        let line = format!("refused {refusal}\n");
-        assert_eq!(listing(image), line.into_bytes());
+        assert_eq!(listing(image), room);
     }
 }
 
@@ -48,7 +52,7 @@ pub fn full() -> Build {
 }
 
 fn all_accept(image: &[u8]) {
-    assert_eq!(all_calls(image), vec![0; 8]);
+    assert_eq!(all_calls(image), vec![0; 9]);
 }
 
 #[test]

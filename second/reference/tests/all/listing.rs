@@ -2,7 +2,7 @@
 
 use crate::build::*;
 use crate::examples::{two_segments, P10};
-use reference::listing;
+use reference::{list, listing};
 use std::io::Write;
 use std::process::{Command, Output, Stdio};
 
@@ -61,6 +61,40 @@ fn digits() {
     };
     let expected = "ordinals 11\n1 254:CDEF AB\n11 255:0000 00\nend\n";
     assert_eq!(text(&build.image()), expected);
+}
+
+/// As much of P10's listing as fits; the rest of the room stays as it came.
+#[test]
+fn any_room() {
+    let image = two_segments(&P10);
+    let whole = OF_P10.len();
+    for length in 0..=whole + 5 {
+        let mut room = vec![0xEE; length];
+        assert_eq!(list(&image, &mut room), whole);
+        let fits = length.min(whole);
+        assert_eq!(&room[..fits], &OF_P10.as_bytes()[..fits]);
+        assert!(room[fits..].iter().all(|byte| *byte == 0xEE));
+    }
+}
+
+/// The exported listing never says `too long`.
+#[test]
+fn images_of_any_length() {
+    let mut image = two_segments(&P10);
+    for (length, text) in [
+        (65_536, OF_P10),
+        (65_537, OF_P10),
+        (16_777_216, OF_P10),
+        (16_777_217, "refused 2\n"),
+    ] {
+        image.resize(length, 0);
+        let mut room = [0; 100];
+        let written = list(&image, &mut room);
+        assert_eq!(&room[..written], text.as_bytes());
+    }
+    let mut room = [0; 10];
+    assert_eq!(list(&[0; 65_537], &mut room), 10);
+    assert_eq!(&room, b"refused 3\n");
 }
 
 /// Runs the program on a file, or on standard input without one.

@@ -13,4 +13,5 @@ mod resources;
 mod segments;
 mod sites;
 mod step;
+mod tables;
 mod targets;

@@ -196,7 +196,13 @@ fn ask(random: &mut Random, image: &[u8]) {
     if let Ok(found) = resource_by_words(image, 0x8001, id) {
         assert_eq!((found.type_, found.id), (0x8001, id));
     }
-    assert!(listing(image).ends_with(b"\n"));
+    if let Ok(found) = tables(image) {
+        inside(found.header_at, 64);
+        assert!(found.segments == 0 || found.segments_at >= found.header_at);
+    }
+    let text = listing(image);
+    assert!(text.ends_with(b"\n"));
+    assert_eq!(list(image, &mut []), text.len());
 }
 
 /// What is lent for preparing.
