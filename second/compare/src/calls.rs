@@ -2,7 +2,9 @@
 //!
 //! A call has a file of its own and one line in [`all`].
 
+mod header;
 mod held;
+pub mod list;
 mod module;
 mod name_by_bytes;
 mod name_by_number;
@@ -16,14 +18,16 @@ mod resource_by_words;
 mod segment;
 pub mod step;
 
+pub use header::HeaderQuery;
 pub use held::Held;
+pub use list::{List, Listing};
 pub use module::ModuleQuery;
 pub use name_by_bytes::NameByBytes;
 pub use name_by_number::NameByNumber;
 pub use ordinal::OrdinalQuery;
 pub use prepare::{InEveryOrder, Prepare, Prepared, Preparing};
 pub use query::{AmountOf, AnswerOf, FieldsOf, Function, Query};
-pub use request::{Request, Text, Words};
+pub use request::{Request, Text, Whole, Words};
 pub use resource_by_number::ResourceByNumber;
 pub use resource_by_words::ResourceByWords;
 pub use segment::SegmentQuery;
@@ -80,6 +84,7 @@ pub trait Call {
 
 pub fn all() -> Vec<Box<dyn Call>> {
     vec![
+        Box::new(Function::<HeaderQuery>::exported()),
         Box::new(Function::<SegmentQuery>::exported()),
         Box::new(Function::<OrdinalQuery>::exported()),
         Box::new(Function::<NameByNumber>::exported()),
@@ -89,6 +94,7 @@ pub fn all() -> Vec<Box<dyn Call>> {
         Box::new(Function::<ResourceByWords>::exported()),
         Box::new(InEveryOrder::exported()),
         Box::new(Function::<Step>::exported()),
+        Box::new(Function::<List>::exported()),
     ]
 }
 

@@ -8,6 +8,7 @@
 mod fixups;
 mod header;
 pub mod judge;
+pub mod list;
 mod minimal;
 pub mod module;
 pub mod name_by_bytes;
@@ -20,6 +21,7 @@ pub mod resource_by_words;
 mod resources;
 pub mod segment;
 pub mod step;
+pub mod tables;
 
 use crate::answer::{Answer, Why};
 use std::fmt::Debug;

@@ -3,7 +3,8 @@
 //! All unsafe code is here.
 
 use crate::results::{
-    ModuleResult, NameResult, OrdinalResult, PrepareResult, ResourceResult, SegmentResult,
+    HeaderResult, ModuleResult, NameResult, OrdinalResult, PrepareResult, ResourceResult,
+    SegmentResult,
 };
 
 /// Bytes or other numbers that are lent for a call, to be read.
@@ -63,6 +64,7 @@ type ByWords<T> = unsafe extern "C" fn(*const u8, usize, u32, u32) -> T;
 type ByBytes<T> = unsafe extern "C" fn(*const u8, usize, *const u8, usize) -> T;
 
 extern "C" {
+    fn ne_header(image: *const u8, image_length: usize) -> HeaderResult;
     fn ne_segment(image: *const u8, image_length: usize, number: u32) -> SegmentResult;
     fn ne_ordinal(image: *const u8, image_length: usize, number: u32) -> OrdinalResult;
     fn ne_name_by_number(image: *const u8, image_length: usize, number: u32) -> NameResult;
@@ -103,6 +105,12 @@ extern "C" {
         buffer: *mut u8,
         buffer_length: usize,
     );
+    fn ne_list(image: *const u8, image_length: usize, text: *mut u8, text_length: usize) -> usize;
+}
+
+pub fn header(image: Lent) -> HeaderResult {
+    // SAFETY: as in `by_number`.
+    unsafe { ne_header(image.pointer(), image.length()) }
 }
 
 pub fn segment(image: Lent, number: u32) -> SegmentResult {
@@ -198,5 +206,17 @@ pub fn step(image: Lent, record: &[u8; 8], answer: u32, selectors: Lent<u16>, mu
             buffer.pointer(),
             buffer.length(),
         );
+    }
+}
+
+pub fn list(image: Lent, mut text: Room) -> usize {
+    // SAFETY: as in `prepare`.
+    unsafe {
+        ne_list(
+            image.pointer(),
+            image.length(),
+            text.pointer(),
+            text.length(),
+        )
     }
 }

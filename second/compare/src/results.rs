@@ -2,7 +2,7 @@
 //! they stand for.
 
 use crate::answer::Answer;
-use reference::{Entry, Module, Name, Resource, Segment};
+use reference::{Entry, Module, Name, Resource, Segment, Tables};
 use std::fmt::Debug;
 
 /// Values that can be written down as numbers alone.
@@ -58,6 +58,8 @@ macro_rules! result {
     };
 }
 
+result!("`ne_header`" HeaderResult of Tables: header_at, unit, segments_at, segments, modules_at, modules,
+    entries_at, entries_len, nonresident_at, nonresident_len, resident_at, imported_at, resources_at);
 result!("`ne_segment`" SegmentResult of Segment: start, stored, flags, allocation, records);
 result!("`ne_ordinal`" OrdinalResult of Entry: segment, offset, flag);
 result!("the name queries" NameResult of Name: number, text_at, text_len, ordinal);

@@ -171,6 +171,7 @@ fn ordinal_counts() -> Vec<Special> {
             true,
             &[],
         ),
+        entries("21,675 entries", vec![fixed(1, 255); 85], true, &[]),
     ]
 }
 

@@ -1,10 +1,10 @@
 //! A query: an exported function that takes an image and a request.
 
-use super::{agree, differing, Amount, Call, Request};
+use super::{agree, differing, Amount, Call, Request, REQUESTS};
 use crate::answer::{Answer, Why};
 use crate::difference::Difference;
 use crate::edges::judge::{self, Edges};
-use crate::inputs::Input;
+use crate::inputs::{Input, Kind};
 use crate::library::Lent;
 use crate::results::Values;
 use crate::seen::Seen;
@@ -31,12 +31,20 @@ pub trait Query: Sized + 'static {
     /// Kinds of cases that a whole run must have so many of.
     const AMOUNTS: &'static [AmountOf<Self>] = &[];
 
+    /// How many requests are worth making of one image.
+    const WORTH: u64 = REQUESTS;
+
     fn exported(image: Lent, request: &Self::Request) -> Self::Result;
 
     fn reference(image: &[u8], request: &Self::Request) -> Result<Self::Values, Self::Why>;
 
+    /// The answer that says this refusal.
+    fn refused(_: &Self::Request, refusal: u32) -> AnswerOf<Self> {
+        Answer::Refused(refusal.into())
+    }
+
     /// A request that is worth making of the image; they are numbered under
-    /// [`REQUESTS`](super::REQUESTS).
+    /// [`Query::WORTH`].
     fn worth_asking(input: &Input, request: u64, random: &mut Random) -> Self::Request;
 
     /// The edges by their subject.
@@ -123,6 +131,10 @@ impl<Q: Query> Call for Function<Q> {
 
     fn amounts(&self) -> Vec<Amount> {
         Q::AMOUNTS.iter().map(|kind| kind.amount).collect()
+    }
+
+    fn makes(&self, _: Kind, request: u64) -> bool {
+        request < Q::WORTH
     }
 
     fn edges(&self) -> Box<dyn Iterator<Item = Tally>> {

@@ -2,10 +2,21 @@
 
 use crate::library::Lent;
 
-/// A number, two words, a name's bytes, or what preparing and the step take.
+/// Nothing, a number, two words, a name's bytes, or what preparing, the step and
+/// the listing take.
 pub trait Request: Clone + 'static {
     /// As it is printed.
     fn text(&self) -> String;
+}
+
+/// The image as a whole, where there is nothing else to ask.
+#[derive(Clone, Debug, PartialEq, Eq, PartialOrd, Ord)]
+pub struct Whole;
+
+impl Request for Whole {
+    fn text(&self) -> String {
+        "the image".to_string()
+    }
 }
 
 impl Request for u32 {

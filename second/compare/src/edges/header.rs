@@ -28,6 +28,12 @@ pub trait Images {
     /// What is given there.
     const PLAIN: Self::Fields;
 
+    /// What is given where something in it is changed that the query doesn't
+    /// read. The header query reads all that its checks do.
+    fn fields(_: &Minimal) -> Self::Fields {
+        Self::PLAIN
+    }
+
     /// The same, but that the query's own checks refuse what is asked.
     fn unsound() -> Minimal;
 
@@ -36,7 +42,7 @@ pub trait Images {
     fn in_header(place: usize) -> Minimal;
 
     /// What is given there.
-    fn fields_in_header(place: usize) -> Self::Fields;
+    fn fields_in_header(image: &Minimal) -> Self::Fields;
 
     /// The tables that the query reads, apart from the segments' records.
     const READS: &'static [Table];
@@ -53,8 +59,9 @@ pub trait HeaderEdges: Query {
     /// another answer.
     fn others() -> Vec<Self::Request>;
 
-    /// The refusal where no table has a size or a place.
-    const WITHOUT_TABLES: u32;
+    /// What is given, or the refusal, where no table has a size or a place and
+    /// the shift is 15.
+    const WITHOUT_TABLES: Result<FieldsOf<Self>, u32>;
 
     fn plain() -> Minimal {
         Self::Images::plain()
@@ -99,13 +106,21 @@ fn reads<Q: HeaderEdges>(table: Table) -> bool {
 impl<Q: HeaderEdges> Judge<Q> {
     /// What is asked is answered as on the plain image.
     pub fn accepts_plain(&mut self, name: &str, image: &Minimal) {
-        self.accepts(name, image, Q::asked(), Q::Images::PLAIN);
+        self.accepts(name, image, Q::asked(), Q::Images::fields(image));
     }
 
     /// What is asked is answered from what the NE header holds.
     fn accepts_in_header(&mut self, name: &str, image: &Minimal) {
-        let fields = Q::Images::fields_in_header(image.header());
+        let fields = Q::Images::fields_in_header(image);
         self.accepts(name, image, Q::asked(), fields);
+    }
+
+    /// What is asked is answered as where there are no tables.
+    fn answers_without_tables(&mut self, name: &str, image: &Minimal) {
+        match Q::WITHOUT_TABLES {
+            Ok(fields) => self.accepts(name, image, Q::asked(), fields),
+            Err(refusal) => self.refuses_asked(name, image, refusal),
+        }
     }
 
     /// What is asked is refused.

@@ -41,7 +41,7 @@ impl<Q: Query> Judge<Q> {
     }
 
     pub fn refuses(&mut self, name: &str, image: &Minimal, request: Q::Request, refusal: u32) {
-        self.expects(name, image, &request, &Answer::Refused(refusal.into()));
+        self.expects(name, image, &request, &Q::refused(&request, refusal));
     }
 
     pub fn expects(
@@ -66,7 +66,7 @@ impl<Q: Query> Judge<Q> {
         request: &Q::Request,
         refusal: u32,
     ) {
-        let expected = Answer::Refused(refusal.into());
+        let expected = Q::refused(request, refusal);
         self.expects_of_nothing_at(name, address, request, &expected);
     }
 

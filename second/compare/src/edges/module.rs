@@ -11,7 +11,7 @@ use super::header::{self, HeaderEdges, Images, Table};
 use super::judge::{self, Edges};
 use super::minimal::Minimal;
 use super::{other_numbers, GREAT};
-use crate::calls::ModuleQuery;
+use crate::calls::{FieldsOf, ModuleQuery};
 
 type Judge = judge::Judge<ModuleQuery>;
 
@@ -38,7 +38,7 @@ impl HeaderEdges for ModuleQuery {
         other_numbers()
     }
 
-    const WITHOUT_TABLES: u32 = 8;
+    const WITHOUT_TABLES: Result<FieldsOf<Self>, u32> = Err(8);
 }
 
 /// A module reference for the header's edges.
@@ -79,8 +79,8 @@ impl Images for ModuleImages {
             .put(place + 0x38, b"\x07KEYWORD")
     }
 
-    fn fields_in_header(place: usize) -> [u32; 2] {
-        [place as u32 + 0x39, 7]
+    fn fields_in_header(image: &Minimal) -> [u32; 2] {
+        [image.header() as u32 + 0x39, 7]
     }
 
     const READS: &'static [Table] = &[Table::Modules, Table::ImportedNames];

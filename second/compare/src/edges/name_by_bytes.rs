@@ -9,7 +9,7 @@ use super::header::HeaderEdges;
 use super::judge::{self, Edges};
 use super::minimal::Minimal;
 use super::names::{self, NameEdges, NameImages};
-use crate::calls::{NameByBytes, Text};
+use crate::calls::{FieldsOf, NameByBytes, Text};
 
 type Judge = judge::Judge<NameByBytes>;
 
@@ -44,7 +44,7 @@ impl HeaderEdges for NameByBytes {
         asked.into_iter().map(Text::of).collect()
     }
 
-    const WITHOUT_TABLES: u32 = names::WITHOUT_TABLES;
+    const WITHOUT_TABLES: Result<FieldsOf<Self>, u32> = Err(names::WITHOUT_TABLES);
 }
 
 /// The name is found.

@@ -6,7 +6,7 @@ use super::header::HeaderEdges;
 use super::judge::{self, Edges};
 use super::names::{self, NameEdges, NameImages};
 use super::GREAT;
-use crate::calls::NameByNumber;
+use crate::calls::{FieldsOf, NameByNumber};
 
 type Judge = judge::Judge<NameByNumber>;
 
@@ -33,5 +33,5 @@ impl HeaderEdges for NameByNumber {
         [0, 1, 3].into_iter().chain(GREAT).collect()
     }
 
-    const WITHOUT_TABLES: u32 = names::WITHOUT_TABLES;
+    const WITHOUT_TABLES: Result<FieldsOf<Self>, u32> = Err(names::WITHOUT_TABLES);
 }

@@ -93,8 +93,8 @@ impl Images for NameImages {
             .put(place + 0x34, &SHORT)
     }
 
-    fn fields_in_header(place: usize) -> [u32; 4] {
-        [2, place as u32 + 0x39, 1, 0x1234]
+    fn fields_in_header(image: &Minimal) -> [u32; 4] {
+        [2, image.header() as u32 + 0x39, 1, 0x1234]
     }
 
     const READS: &'static [Table] = &[Table::ResidentNames, Table::NonresidentNames];

@@ -13,7 +13,7 @@ use super::header::{self, HeaderEdges, Images, Table};
 use super::judge::{self, Edges};
 use super::minimal::Minimal;
 use super::{other_numbers, GREAT};
-use crate::calls::OrdinalQuery;
+use crate::calls::{FieldsOf, OrdinalQuery};
 
 type Judge = judge::Judge<OrdinalQuery>;
 
@@ -42,7 +42,7 @@ impl HeaderEdges for OrdinalQuery {
         other_numbers()
     }
 
-    const WITHOUT_TABLES: u32 = 15;
+    const WITHOUT_TABLES: Result<FieldsOf<Self>, u32> = Err(15);
 }
 
 /// An entry table for the header's edges.
@@ -75,7 +75,7 @@ impl Images for OrdinalImages {
             .put(place + 0x34, &ONE_FIXED)
     }
 
-    fn fields_in_header(_: usize) -> [u32; 3] {
+    fn fields_in_header(_: &Minimal) -> [u32; 3] {
         PLAIN
     }
 
@@ -95,7 +95,7 @@ fn plain() -> Minimal {
 
 /// An image with so many segments, their records at 128, and this entry table
 /// right behind them, which ends the image.
-fn module(segments: u16, table: &[u8]) -> Minimal {
+pub fn module(segments: u16, table: &[u8]) -> Minimal {
     let place = 64 + 8 * segments;
     let at = 64 + usize::from(place);
     let bytes = u16::try_from(table.len()).expect("a byte count");
@@ -109,12 +109,12 @@ fn module(segments: u16, table: &[u8]) -> Minimal {
 }
 
 /// The bundles and an end byte.
-fn ended(bundles: &[&[u8]]) -> Vec<u8> {
+pub fn ended(bundles: &[&[u8]]) -> Vec<u8> {
     [&bundles.concat()[..], &[0]].concat()
 }
 
 /// Bundles with so many null ordinals in all.
-fn nulls(count: usize) -> Vec<u8> {
+pub fn nulls(count: usize) -> Vec<u8> {
     let mut bundles = [255, 0].repeat(count / 255);
     let rest = (count % 255) as u8;
     if rest > 0 {
@@ -124,7 +124,7 @@ fn nulls(count: usize) -> Vec<u8> {
 }
 
 /// A bundle of so many equal entries in a fixed segment.
-fn fixed(segment: u8, count: u8) -> Vec<u8> {
+pub fn fixed(segment: u8, count: u8) -> Vec<u8> {
     let entries = [0x11, 0x22, 0x33].repeat(usize::from(count));
     [&[count, segment], &entries[..]].concat()
 }
@@ -135,7 +135,7 @@ fn in_fixed(segment: u32) -> [u32; 3] {
 }
 
 /// A bundle of so many equal movable entries.
-fn movable(segment: u8, count: u8) -> Vec<u8> {
+pub fn movable(segment: u8, count: u8) -> Vec<u8> {
     let entries = [0x44, 0xCD, 0x3F, segment, 0x55, 0x66].repeat(usize::from(count));
     [&[count, 255], &entries[..]].concat()
 }

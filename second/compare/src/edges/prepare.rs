@@ -22,7 +22,7 @@ use super::judge::{self, Edges};
 use super::minimal::Minimal;
 use super::{other_numbers, GREAT};
 use crate::answer::Answer;
-use crate::calls::{Held, Prepare, Prepared, Preparing};
+use crate::calls::{FieldsOf, Held, Prepare, Prepared, Preparing};
 use reference::Refused;
 
 type Judge = judge::Judge<Prepare>;
@@ -110,7 +110,7 @@ impl HeaderEdges for Prepare {
         other_numbers().into_iter().map(numbered).collect()
     }
 
-    const WITHOUT_TABLES: u32 = 8;
+    const WITHOUT_TABLES: Result<FieldsOf<Self>, u32> = Err(8);
 }
 
 /// The segment of this number, with 11 bytes of output and 10 marks, and as
@@ -156,7 +156,7 @@ impl Images for PrepareImages {
             .record(place + 0x34, [0, 5, 0x0010, 3])
     }
 
-    fn fields_in_header(_: usize) -> Self::Fields {
+    fn fields_in_header(_: &Minimal) -> Self::Fields {
         (0, &[0, 0, 0, 4, 5, 6, 7, 8, 9, 10, 11], &[0; 10])
     }
 

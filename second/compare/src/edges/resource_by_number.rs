@@ -6,7 +6,7 @@ use super::header::HeaderEdges;
 use super::judge::{self, Edges};
 use super::resources::{self, ResourceEdges, ResourceImages};
 use super::{other_numbers, GREAT};
-use crate::calls::ResourceByNumber;
+use crate::calls::{FieldsOf, ResourceByNumber};
 
 type Judge = judge::Judge<ResourceByNumber>;
 
@@ -33,5 +33,5 @@ impl HeaderEdges for ResourceByNumber {
         other_numbers()
     }
 
-    const WITHOUT_TABLES: u32 = 8;
+    const WITHOUT_TABLES: Result<FieldsOf<Self>, u32> = Err(8);
 }

@@ -6,7 +6,7 @@ mod words;
 use super::header::HeaderEdges;
 use super::judge::{self, Edges};
 use super::resources::{self, ResourceEdges, ResourceImages};
-use crate::calls::{ResourceByWords, Words};
+use crate::calls::{FieldsOf, ResourceByWords, Words};
 
 type Judge = judge::Judge<ResourceByWords>;
 
@@ -47,5 +47,5 @@ impl HeaderEdges for ResourceByWords {
         ]
     }
 
-    const WITHOUT_TABLES: u32 = 19;
+    const WITHOUT_TABLES: Result<FieldsOf<Self>, u32> = Err(19);
 }

@@ -146,7 +146,7 @@ impl Images for ResourceImages {
         words.into_iter().enumerate().fold(image, put)
     }
 
-    fn fields_in_header(_: usize) -> [u32; 5] {
+    fn fields_in_header(_: &Minimal) -> [u32; 5] {
         [0x8001, 0x8002, 0x0C30, 32, 3]
     }
 

@@ -13,7 +13,7 @@ use super::header::{self, HeaderEdges, Images, Table};
 use super::judge::{self, Edges};
 use super::minimal::Minimal;
 use super::{other_numbers, GREAT};
-use crate::calls::SegmentQuery;
+use crate::calls::{FieldsOf, SegmentQuery};
 
 type Judge = judge::Judge<SegmentQuery>;
 
@@ -42,7 +42,7 @@ impl HeaderEdges for SegmentQuery {
         other_numbers()
     }
 
-    const WITHOUT_TABLES: u32 = 8;
+    const WITHOUT_TABLES: Result<FieldsOf<Self>, u32> = Err(8);
 }
 
 /// A segment for the header's edges.
@@ -72,7 +72,7 @@ impl Images for SegmentImages {
             .record(place + 0x34, [0, 5, 0x0010, 3])
     }
 
-    fn fields_in_header(_: usize) -> [u32; 5] {
+    fn fields_in_header(_: &Minimal) -> [u32; 5] {
         [0, 0, 0x0010, 3, 0]
     }
 

