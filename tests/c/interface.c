@@ -11,6 +11,22 @@
 #endif
 
 /* Each field is a 32-bit number, in the documented order, with nothing between them. */
+SAME(sizeof(struct ne_header_result), 56);
+SAME(offsetof(struct ne_header_result, refusal), 0);
+SAME(offsetof(struct ne_header_result, header_at), 4);
+SAME(offsetof(struct ne_header_result, unit), 8);
+SAME(offsetof(struct ne_header_result, segments_at), 12);
+SAME(offsetof(struct ne_header_result, segments), 16);
+SAME(offsetof(struct ne_header_result, modules_at), 20);
+SAME(offsetof(struct ne_header_result, modules), 24);
+SAME(offsetof(struct ne_header_result, entries_at), 28);
+SAME(offsetof(struct ne_header_result, entries_len), 32);
+SAME(offsetof(struct ne_header_result, nonresident_at), 36);
+SAME(offsetof(struct ne_header_result, nonresident_len), 40);
+SAME(offsetof(struct ne_header_result, resident_at), 44);
+SAME(offsetof(struct ne_header_result, imported_at), 48);
+SAME(offsetof(struct ne_header_result, resources_at), 52);
+
 SAME(sizeof(struct ne_segment_result), 24);
 SAME(offsetof(struct ne_segment_result, refusal), 0);
 SAME(offsetof(struct ne_segment_result, start), 4);
@@ -125,6 +141,28 @@ static void make(uint8_t image[SIZE])
 }
 
 /* Every field of an accepted answer has a number of its own, so a field in a wrong place would show. */
+static void header_accepted(void)
+{
+    uint8_t image[SIZE];
+    struct ne_header_result r;
+    make(image);
+    r = ne_header(image, sizeof image);
+    expect("refusal of a header", r.refusal, 0);
+    expect("place of the header", r.header_at, 64);
+    expect("unit", r.unit, 16);
+    expect("place of the segments", r.segments_at, 128);
+    expect("segments", r.segments, 1);
+    expect("place of the modules", r.modules_at, 240);
+    expect("modules", r.modules, 2);
+    expect("place of the entries", r.entries_at, 184);
+    expect("bytes of the entries", r.entries_len, sizeof entry_table);
+    expect("place of the nonresident names", r.nonresident_at, 220);
+    expect("bytes of the nonresident names", r.nonresident_len, sizeof nonresident);
+    expect("place of the resident names", r.resident_at, 200);
+    expect("place of the imported names", r.imported_at, 244);
+    expect("place of the resources", r.resources_at, 260);
+}
+
 static void segment_accepted(void)
 {
     uint8_t image[SIZE];
@@ -156,6 +194,15 @@ static void ordinal_accepted(void)
     expect("flag of a movable entry", r.flag, 0x5a);
 }
 
+static void header_refused(const char *what, const uint8_t *image, size_t len, uint32_t refusal)
+{
+    struct ne_header_result r = ne_header(image, len);
+    expect(what, r.refusal, refusal);
+    expect(what, r.header_at | r.unit | r.segments_at | r.segments | r.modules_at | r.modules, 0);
+    expect(what, r.entries_at | r.entries_len | r.nonresident_at | r.nonresident_len, 0);
+    expect(what, r.resident_at | r.imported_at | r.resources_at, 0);
+}
+
 static void segment_refused(const char *what, const uint8_t *image, size_t len, uint32_t number, uint32_t refusal)
 {
     struct ne_segment_result r = ne_segment(image, len, number);
@@ -168,6 +215,17 @@ static void ordinal_refused(const char *what, const uint8_t *image, size_t len, 
     struct ne_ordinal_result r = ne_ordinal(image, len, number);
     expect(what, r.refusal, refusal);
     expect(what, r.segment | r.offset | r.flag, 0);
+}
+
+static void headers(void)
+{
+    uint8_t image[SIZE];
+    make(image);
+    header_accepted();
+    header_refused("the header of an empty image", NULL, 0, 1);
+    header_refused("a header that is cut", image, 127, 4);
+    image[64] = 'P';
+    header_refused("no NE", image, sizeof image, 5);
 }
 
 static void segments(void)
@@ -200,6 +258,42 @@ static void ordinals(void)
     ordinal_refused("an entry in segment 2 of 1", image, sizeof image, 4, 13);
     put_word(image + 64 + 0x06, 6);
     ordinal_refused("an entry table that is cut", image, sizeof image, 3, 12);
+}
+
+/* How many bytes aren't this one. */
+static uint32_t others(const uint8_t *bytes, size_t len, uint8_t byte)
+{
+    uint32_t count = 0;
+    size_t i;
+    for (i = 0; i < len; i++)
+        count += bytes[i] != byte;
+    return count;
+}
+
+/* The listing is these lines, in this much room. */
+static void listed(const char *what, const uint8_t *image, size_t len, size_t room, const char *lines)
+{
+    uint8_t text[100];
+    size_t fits = room < strlen(lines) ? room : strlen(lines);
+    memset(text, 0xa5, sizeof text);
+    expect(what, (uint32_t)ne_list(image, len, text, room), (uint32_t)strlen(lines));
+    expect(what, (uint32_t)memcmp(text, lines, fits), 0);
+    expect(what, others(text + fits, sizeof text - fits, 0xa5), 0);
+}
+
+static void listings(void)
+{
+    static const char lines[] = "ordinals 4\n3 1:1234 A5\n4 1:5678 5A\nend\n";
+    uint8_t image[SIZE];
+    make(image);
+    listed("a listing with more room", image, sizeof image, 100, lines);
+    listed("a listing in its own length", image, sizeof image, sizeof lines - 1, lines);
+    listed("a listing that is cut", image, sizeof image, sizeof lines - 2, lines);
+    listed("a listing without room", image, sizeof image, 0, lines);
+    expect("a listing in no room at no place", (uint32_t)ne_list(image, sizeof image, NULL, 0), sizeof lines - 1);
+    listed("the listing of an empty image", NULL, 0, 100, "refused 1\n");
+    image[184 + 3] = 2;
+    listed("the listing of an entry in segment 2 of 1", image, sizeof image, 100, "refused 13\n");
 }
 
 static void name_accepted(const char *what, struct ne_name_result r, uint32_t number, uint32_t text_at, uint32_t text_len,
@@ -354,16 +448,6 @@ static struct ne_prepare_result prepare(const uint8_t *image, size_t len, uint32
                       sizeof room->marks);
 }
 
-/* How many bytes aren't this one. */
-static uint32_t others(const uint8_t *bytes, size_t len, uint8_t byte)
-{
-    uint32_t count = 0;
-    size_t i;
-    for (i = 0; i < len; i++)
-        count += bytes[i] != byte;
-    return count;
-}
-
 static void prepared_accepted(void)
 {
     uint8_t image[SIZE];
@@ -462,8 +546,10 @@ static void steps(void)
 
 int main(void)
 {
+    headers();
     segments();
     ordinals();
+    listings();
     names_by_number();
     names_by_bytes();
     module_names();
