@@ -42,7 +42,7 @@ $(BUILD)/ne: $(BUILD)/libne.a FORCE
 	@$(call update,$(BUILD)/cargo/release/ne)
 
 # What is exported is what the header declares, and the library has to have it.
-$(BUILD)/ne.map: include/ne.h | $(BUILD)
+$(BUILD)/ne.map: include/ne.h Makefile | $(BUILD)
 	names=$$($(CC) -E -P $< | grep -oE '\bne_[a-z_]+\(' | tr '(' ';') && echo "{ global: $$names local: *; };" >$@
 
 $(BUILD)/$(SHARED): $(BUILD)/libne.a $(BUILD)/ne.map
@@ -76,7 +76,8 @@ test:
 	.ci/run
 
 install: all
-	$(INSTALL) -d "$(DESTDIR)$(BINDIR)" "$(DESTDIR)$(LIBDIR)" "$(DESTDIR)$(INCLUDEDIR)" "$(DESTDIR)$(PKGCONFIGDIR)" "$(DESTDIR)$(MANDIR)/man1"
+	$(INSTALL) -d "$(DESTDIR)$(BINDIR)" "$(DESTDIR)$(LIBDIR)" "$(DESTDIR)$(INCLUDEDIR)" "$(DESTDIR)$(PKGCONFIGDIR)" \
+	    "$(DESTDIR)$(MANDIR)/man1"
 	$(INSTALL) -m 755 $(BUILD)/ne "$(DESTDIR)$(BINDIR)"
 	$(INSTALL) -m 644 $(BUILD)/libne.a "$(DESTDIR)$(LIBDIR)"
 	$(INSTALL) -m 755 $(BUILD)/$(SHARED) "$(DESTDIR)$(LIBDIR)"

@@ -2,57 +2,14 @@
 //!
 //! All unsafe code is here.
 
+mod lent;
+
+pub use lent::{Lent, Room};
+
 use crate::results::{
     HeaderResult, ModuleResult, NameResult, OrdinalResult, PrepareResult, ResourceResult,
     SegmentResult,
 };
-
-/// Bytes or other numbers that are lent for a call, to be read.
-#[derive(Clone, Copy)]
-pub enum Lent<'a, T = u8> {
-    These(&'a [T]),
-    /// None, which may be said to stand at any address.
-    NothingAt(usize),
-}
-
-impl<T> Lent<'_, T> {
-    fn pointer(&self) -> *const T {
-        match self {
-            Lent::These(items) => items.as_ptr(),
-            Lent::NothingAt(address) => *address as *const T,
-        }
-    }
-
-    fn length(&self) -> usize {
-        match self {
-            Lent::These(items) => items.len(),
-            Lent::NothingAt(_) => 0,
-        }
-    }
-}
-
-/// Bytes that are lent for a call, to be written.
-pub enum Room<'a> {
-    These(&'a mut [u8]),
-    /// None, which may be said to stand at any address.
-    NothingAt(usize),
-}
-
-impl Room<'_> {
-    fn pointer(&mut self) -> *mut u8 {
-        match self {
-            Room::These(bytes) => bytes.as_mut_ptr(),
-            Room::NothingAt(address) => *address as *mut u8,
-        }
-    }
-
-    fn length(&self) -> usize {
-        match self {
-            Room::These(bytes) => bytes.len(),
-            Room::NothingAt(_) => 0,
-        }
-    }
-}
 
 /// An exported function that takes an image and a number.
 type ByNumber<T> = unsafe extern "C" fn(*const u8, usize, u32) -> T;

@@ -10,4 +10,5 @@ mod reports;
 mod requests;
 mod results;
 mod seen;
+mod unclean;
 mod wrong;

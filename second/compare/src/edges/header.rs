@@ -28,8 +28,8 @@ pub trait Images {
     /// What is given there.
     const PLAIN: Self::Fields;
 
-    /// What is given where something in it is changed that the query doesn't
-    /// read. The header query reads all that its checks do.
+    /// What is given where something is changed in it that passes all checks:
+    /// the same, but for the query that gives the header itself.
     fn fields(_: &Minimal) -> Self::Fields {
         Self::PLAIN
     }
