@@ -17,8 +17,9 @@ use builder::Random;
 /// Asks for the listing in lent room. It refuses nothing: a refusal is a line.
 pub struct List;
 
-/// So many listings at least say this refusal.
-macro_rules! refused {
+/// The kinds of listings. One that is cut may say any of some refusals, and
+/// counts for none.
+macro_rules! kinds {
     ($($refusal:literal),+) => {
         &[
             $(AmountOf {
@@ -26,7 +27,9 @@ macro_rules! refused {
                     what: concat!("listings that are `refused ", $refusal, "`"),
                     least: 1,
                 },
-                counts: |request, answer| *answer == List::refused(request, $refusal),
+                counts: |request, answer| {
+                    has_room(answer) && *answer == List::refused(request, $refusal)
+                },
             },)+
             AmountOf {
                 amount: Amount {
@@ -62,7 +65,7 @@ impl Query for List {
     const NAME: &'static str = "ne_list";
     const ANSWERS: &'static [u32] = &[0];
 
-    const AMOUNTS: &'static [AmountOf<Self>] = refused![1, 2, 3, 4, 5, 6, 7, 12, 13, 14];
+    const AMOUNTS: &'static [AmountOf<Self>] = kinds![1, 2, 3, 4, 5, 6, 7, 12, 13, 14];
 
     fn exported(image: Lent, request: &Listing) -> Answer<Listed> {
         request.answered(|room| library::list(image, request.room.room(room)))

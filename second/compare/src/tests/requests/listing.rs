@@ -1,7 +1,7 @@
 //! The rooms that the listing is asked to be written to.
 
 use super::{asked, input, without_header};
-use crate::calls::{Call, Function, HeaderQuery, Held, List, Listing, REQUESTS};
+use crate::calls::{Call, Function, HeaderQuery, Held, List, Listing, Query, REQUESTS};
 use crate::inputs::{Input, Kind};
 use std::collections::BTreeSet;
 
@@ -45,6 +45,26 @@ fn lent_room() {
     for request in asked::<List>(&input("P10"), 4) {
         assert!(request.room.items().iter().all(|byte| *byte != 0));
     }
+}
+
+/// A refusal counts where all of it is there.
+#[test]
+fn refusals_that_are_cut() {
+    let counts = |room, text: &str| -> Vec<&str> {
+        let request = Listing::in_room(room);
+        let answer = request.says(text);
+        let kinds = List::AMOUNTS.iter();
+        let counting = kinds.filter(|kind| (kind.counts)(&request, &answer));
+        counting.map(|kind| kind.amount.what).collect()
+    };
+    let cut = "listings that are cut";
+    let whole = "listings with room for all of them";
+    let said = |refusal| format!("listings that are `refused {refusal}`");
+    assert_eq!(counts(9, "refused 2\n"), [cut]);
+    assert_eq!(counts(10, "refused 2\n"), [said(2).as_str(), whole]);
+    assert_eq!(counts(10, "refused 14\n"), [cut]);
+    assert_eq!(counts(99, "refused 14\n"), [said(14).as_str(), whole]);
+    assert_eq!(counts(99, "refused 8\n"), [whole]);
 }
 
 /// A header is asked for once.
