@@ -1,6 +1,8 @@
 //! What accepted queries answer.
 
-/// Where the tables of a module stand.
+/// Where the tables of a module stand. A table of size 0 may be said to stand
+/// anywhere, and the places of the resident names, the imported names and the
+/// resource table may leave the image: who reads one of them checks it.
 #[derive(Clone, Copy, Debug, PartialEq, Eq)]
 pub struct Header {
     /// The place of the NE header.

@@ -10,6 +10,8 @@ use parchgable::{Header, Image};
 const MOST: u64 = 1 << 34;
 /// The bytes that a segment has at most, which are copied or cleared.
 const BYTES: u64 = 65_536;
+/// The bytes of a record, which are read.
+const RECORD: u64 = 8;
 
 pub struct Work {
     left: u64,
@@ -27,8 +29,8 @@ impl Work {
         // One that is refused here has no records that are gone over.
         let records = image.segment(number).map_or(0, |segment| segment.records);
         let table = u64::from(header.entries_len);
-        // A record goes over bundles, of two bytes or more.
-        let steps = BYTES + table + u64::from(records) * (table / 2);
+        // A record may go over all bundles, of two bytes or more.
+        let steps = BYTES + table + u64::from(records) * (RECORD + table / 2);
         let left = self.left.checked_sub(steps);
         self.left = left.unwrap_or_default();
         left.is_some()
