@@ -1,13 +1,11 @@
 //! One kind of input, compared with every call.
 
 use crate::calls::{Call, REQUESTS};
-use crate::difference::{Difference, Place};
-use crate::inputs::{Input, Kind};
+use crate::cases::{each_case, Case};
+use crate::inputs::Kind;
 use crate::options::Options;
 use crate::seen::Seen;
-use crate::streams::{number_of, stream};
-use std::ops::Range;
-use std::panic::{catch_unwind, AssertUnwindSafe};
+use std::ops::{ControlFlow, Range};
 use tally::Tally;
 
 /// Differences of one call that are printed; the others are only counted.
@@ -23,19 +21,17 @@ struct Asked<'a> {
 /// Each call counts as one check.
 pub fn compare(kind: Kind, calls: &[&dyn Call], options: &Options, seen: &mut Seen) -> Tally {
     let mut asked: Vec<Asked> = calls.iter().map(|call| Asked::new(*call)).collect();
-    let images = images(kind, options);
-    let inputs = kind.inputs(options.seed, images.clone());
-    for (image, input) in images.zip(inputs) {
-        for request in requests(options) {
-            let case = image * REQUESTS + request;
-            for call in &mut asked {
-                // A case that is asked for alone is always made.
-                if options.only_case.is_some() || call.call.makes(kind, request) {
-                    call.ask(kind, options.seed, case, &input, seen);
-                }
+    let (images, requests) = (images(kind, options), requests(options));
+    // Nothing breaks off: all cases are counted.
+    let _ = each_case(kind, options.seed, images, requests, &mut |case| {
+        for call in &mut asked {
+            // A case that is asked for alone is always made.
+            if options.only_case.is_some() || case.is_made_by(call.call) {
+                call.ask(case, seen);
             }
         }
-    }
+        ControlFlow::Continue(())
+    });
     let mut tally = Tally::default();
     for call in asked {
         tally.count(call.close(kind));
@@ -66,28 +62,13 @@ impl<'a> Asked<'a> {
         }
     }
 
-    /// Compares one case. It depends on the kind, the seed and its number only.
-    fn ask(&mut self, kind: Kind, seed: u64, case: u64, input: &Input, seen: &mut Seen) {
-        let call = self.call;
-        let mut random = stream(seed, &[kind as u64, case, number_of(call.name())]);
-        let request = case % REQUESTS;
-        let compared = catch_unwind(AssertUnwindSafe(|| {
-            call.compare(input, request, &mut random, seen)
-        }));
+    fn ask(&mut self, case: &Case, seen: &mut Seen) {
         self.cases += 1;
-        if matches!(compared, Ok(Ok(()))) {
-            return;
-        }
-        self.differing += 1;
-        if self.differing <= PRINTED {
-            let place = Place {
-                call: call.name(),
-                kind: kind.name(),
-                case,
-                seed,
-                origin: &input.origin,
-            };
-            println!("{}", report(compared.ok(), &place, &input.bytes));
+        if let Err(failure) = case.compare(self.call, seen) {
+            self.differing += 1;
+            if self.differing <= PRINTED {
+                println!("{}", case.report(self.call, &failure));
+            }
         }
     }
 
@@ -101,13 +82,5 @@ impl<'a> Asked<'a> {
             differing => println!("FAILED: {kind}: {call}, {differing} of {cases} cases differ"),
         }
         cases > 0 && self.differing == 0
-    }
-}
-
-/// The report of a difference, or of a panic where there is none.
-fn report(compared: Option<Result<(), Difference>>, place: &Place, image: &[u8]) -> String {
-    match compared {
-        Some(Err(difference)) => difference.report(place, image),
-        _ => format!("{place}\n  it panicked"),
     }
 }

@@ -27,6 +27,29 @@ impl Seen {
         *self.amounts.entry((call, what)).or_insert(0) += cases;
     }
 
+    /// Counts all that another has counted too.
+    pub fn merge(&mut self, other: &Seen) {
+        for (answer, count) in &other.counts {
+            *self.counts.entry(*answer).or_insert(0) += count;
+        }
+        for ((call, what), cases) in &other.amounts {
+            self.add(call, what, *cases);
+        }
+    }
+
+    /// Those that some call gave.
+    pub fn refusals(&self) -> BTreeSet<u32> {
+        let answers = self.counts.keys().map(|(_, answer)| *answer);
+        answers.filter(|answer| *answer != 0).collect()
+    }
+
+    /// A line for each kind of cases.
+    pub fn amounts(&self) -> String {
+        let line = |((call, what), cases): (&(_, _), &u64)| format!("{call}: {cases} {what}");
+        let lines: Vec<String> = self.amounts.iter().map(line).collect();
+        lines.join("\n")
+    }
+
     fn amount(&self, call: &'static str, what: &'static str) -> u64 {
         self.amounts.get(&(call, what)).copied().unwrap_or(0)
     }

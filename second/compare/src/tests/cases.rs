@@ -4,10 +4,12 @@ use super::noticed::Noticed;
 use super::wrong;
 use super::wrong::segment::{call, rare_start, right};
 use crate::calls::Call;
+use crate::cases::each_case;
 use crate::group;
 use crate::inputs::{Kind, KINDS};
 use crate::options::Options;
 use crate::seen::Seen;
+use std::ops::ControlFlow;
 use tally::Tally;
 
 fn compare(kind: Kind, call: &dyn Call, options: &Options) -> Tally {
@@ -87,6 +89,20 @@ fn an_image_depends_on_its_number_alone() {
             assert_eq!(first.origin, again.origin);
         }
     }
+}
+
+#[test]
+fn cases_have_their_numbers_and_can_be_broken_off() {
+    let mut numbers = Vec::new();
+    let ended = each_case(Kind::Sound, 9, 2..9, 3..5, &mut |case| {
+        numbers.push(case.number);
+        match numbers.len() {
+            5 => ControlFlow::Break(()),
+            _ => ControlFlow::Continue(()),
+        }
+    });
+    assert_eq!(numbers, [19, 20, 27, 28, 35]);
+    assert!(ended.is_break());
 }
 
 #[test]

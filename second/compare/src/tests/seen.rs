@@ -80,6 +80,29 @@ fn an_answer_that_a_call_cannot_give_has_no_number() {
     assert_eq!((tally.passed(), tally.failed()), (13, 11));
 }
 
+#[test]
+fn what_others_counted_is_added() {
+    let (mut seen, mut other) = (without(Some(3)), Seen::default());
+    other.note(CALL, 3);
+    other.note(CALL, 4);
+    other.note("ne_ordinal", 15);
+    seen.add(CALL, "cases", 5);
+    other.add(CALL, "cases", 2);
+    other.add("ne_ordinal", "cases", 1);
+    seen.merge(&other);
+    assert_eq!([3, 4, 5].map(|answer| seen.count(CALL, answer)), [1, 2, 1]);
+    assert_eq!(seen.count("ne_ordinal", 15), 1);
+    assert_eq!(seen.amounts(), "ne_ordinal: 1 cases\nne_segment: 7 cases");
+}
+
+#[test]
+fn acceptance_is_no_refusal() {
+    let seen = without(Some(3));
+    let expected = [1, 2, 4, 5, 6, 7, 8, 9, 10, 11];
+    assert!(seen.refusals().into_iter().eq(expected));
+    assert!(Seen::default().refusals().is_empty());
+}
+
 /// All answers of a call, and of each kind of cases as many as are wanted, but
 /// for one kind that has one case less.
 fn with_amounts(call: &dyn Call, short: Option<usize>) -> Seen {
