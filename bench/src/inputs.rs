@@ -1,8 +1,8 @@
 //! The inputs, each accepted: what is measured, and the same at other sizes, to
 //! see that the time grows as the work does.
 
-mod module;
-mod noise;
+pub(crate) mod module;
+pub(crate) mod noise;
 
 use crate::answer::Request;
 use module::{entry_table, record, Module, ADDITIVE, FAR, LOW_BYTE, OFFSET, SELECTOR};
@@ -40,7 +40,7 @@ pub struct Input {
 }
 
 impl Input {
-    fn new(name: String, module: &Module) -> Input {
+    pub(crate) fn new(name: String, module: &Module) -> Input {
         let (image, stored) = module.image();
         Input {
             name,
@@ -48,7 +48,9 @@ impl Input {
             units: 0,
             headline: true,
             image,
-            selectors: vec![0x1017, 0x101F, 0x1027, 0x102F],
+            selectors: (0..module.segments as u16)
+                .map(|n| n.wrapping_mul(8).wrapping_add(0x1017))
+                .collect(),
             answers: (0..module.records.len() as u32)
                 .map(|n| 0x2000_1000 + 8 * n)
                 .collect(),

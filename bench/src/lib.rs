@@ -7,7 +7,9 @@
 pub mod answer;
 pub mod careful;
 pub mod inputs;
+pub mod queries;
 pub mod second;
+pub mod slowest;
 
 #[cfg(test)]
 mod tests;

@@ -32,40 +32,54 @@ pub fn all(inputs: &[Input]) -> Vec<Times> {
         .collect();
     for _ in 0..PASSES {
         for (input, seen) in inputs.iter().zip(&mut seen) {
-            rounds(input, seen);
+            all_programs(input, seen);
         }
     }
     seen.into_iter().map(|seen| seen.map(median)).collect()
 }
 
-/// Times all programs, one after the other in every round.
-fn rounds(input: &Input, seen: &mut [Vec<f64>; PROGRAMS.len()]) {
+/// Times all programs.
+fn all_programs(input: &Input, seen: &mut [Vec<f64>; PROGRAMS.len()]) {
     let mut buffers = Buffers::new(input);
     let batch = batch(input, &mut buffers);
+    rounds(seen, ENOUGH, |program| {
+        time(PROGRAMS[program], input, &mut buffers, batch)
+    });
+}
+
+/// Times runs of several indices, one after the other in every round.
+pub fn rounds<const RUNS: usize>(
+    seen: &mut [Vec<f64>; RUNS],
+    enough: Duration,
+    mut run: impl FnMut(usize) -> f64,
+) {
     let start = Instant::now();
     for round in 0.. {
-        if round >= ROUNDS && start.elapsed() > ENOUGH {
+        if round >= ROUNDS && start.elapsed() > enough {
             break;
         }
-        for (program, seen) in PROGRAMS.iter().zip(&mut *seen) {
-            let mut run = || time(*program, input, &mut buffers, batch);
-            seen.push(deeper(round % DEPTHS, &mut run));
+        for (index, seen) in seen.iter_mut().enumerate() {
+            seen.push(deeper(round % DEPTHS, &mut || run(index)));
         }
     }
 }
 
 /// Asserts that the three programs accept the input and write the same.
 fn agree(input: &Input) {
-    let [library, second, careful] = [LIBRARY, SECOND, CAREFUL].map(|program| {
-        let mut output = vec![0xA5; input.allocation];
-        let mut marks = vec![0x5A; input.stored.len()];
-        let request = input.request(&input.image);
-        let answer = PROGRAMS[program](input, &request, &mut output, &mut marks);
-        (answer, output, marks)
-    });
+    let [library, second, careful] =
+        [LIBRARY, SECOND, CAREFUL].map(|program| outcome(program, input));
     assert_eq!(library.0.refusal, 0, "{}: refused", input.name);
     assert!(library == second, "{}: not as the second", input.name);
     assert!(library == careful, "{}: not as the careful", input.name);
+}
+
+/// What a program answers, and the output and marks that it leaves.
+pub fn outcome(program: usize, input: &Input) -> (Answer, Vec<u8>, Vec<u8>) {
+    let mut output = vec![0xA5; input.allocation];
+    let mut marks = vec![0x5A; input.stored.len()];
+    let request = input.request(&input.image);
+    let answer = PROGRAMS[program](input, &request, &mut output, &mut marks);
+    (answer, output, marks)
 }
 
 /// As many calls as take long enough for the clock.
@@ -81,7 +95,7 @@ fn batch(input: &Input, buffers: &mut Buffers) -> usize {
 }
 
 /// The seconds that one of so many calls takes.
-fn time(program: Program, input: &Input, buffers: &mut Buffers, calls: usize) -> f64 {
+pub fn time(program: Program, input: &Input, buffers: &mut Buffers, calls: usize) -> f64 {
     let request = input.request(buffers.image.bytes());
     let output = buffers.output.bytes_mut();
     let marks = buffers.marks.bytes_mut();
@@ -106,7 +120,7 @@ fn deeper(depth: usize, run: &mut dyn FnMut() -> f64) -> f64 {
     seconds
 }
 
-fn median(mut seconds: Vec<f64>) -> f64 {
+pub fn median(mut seconds: Vec<f64>) -> f64 {
     seconds.sort_by(f64::total_cmp);
     seconds[seconds.len() / 2]
 }

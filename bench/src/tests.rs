@@ -1,6 +1,9 @@
 //! Careful Rust gives the second program's answers, output and marks, so that
 //! it is known to do the same work.
 
+mod queries;
+mod slowest;
+
 use crate::answer::{Answer, Request};
 use crate::careful;
 use crate::inputs;

@@ -1,5 +1,4 @@
-//! A module of four segments and one module reference, the first segment with
-//! stored bytes and records.
+//! A module of some segments and one module reference.
 
 use super::noise::Noise;
 use std::ops::Range;
@@ -10,25 +9,35 @@ pub const FAR: u8 = 3;
 pub const OFFSET: u8 = 5;
 /// The flag bit of an additive record.
 pub const ADDITIVE: u8 = 4;
+/// The segments that targets are in.
+pub const SEGMENTS: usize = 4;
 /// The place of a string in the imported names.
 pub const STRING: u16 = 8;
 
 const IMPORTED_NAMES: &[u8] = b"\0\x06KERNEL\x04BEEP";
-/// The NE header's place; the tables stand behind it in this order.
+/// Its only one is the string at 1 of the imported names.
+const MODULE_REFERENCES: &[u8] = &[1, 0];
+/// The NE header's place; the tables stand behind it.
 const HEADER: usize = 64;
-const SEGMENT_TABLE: usize = 64;
-const MODULE_REFERENCES: usize = SEGMENT_TABLE + 4 * 8;
-const IMPORTED: usize = MODULE_REFERENCES + 2;
-const ENTRY_TABLE: usize = IMPORTED + IMPORTED_NAMES.len();
+const HEADER_END: usize = HEADER + 64;
+const ENTRY_TABLE_FIELD: usize = 0x04;
+const SEGMENT_TABLE_FIELD: usize = 0x22;
 /// The alignment shift.
 const SHIFT: usize = 9;
 
 /// What the module of an input holds.
+#[derive(Clone)]
 pub struct Module {
     pub stored: Vec<u8>,
     pub allocation: usize,
     pub records: Vec<[u8; 8]>,
     pub entries: Vec<u8>,
+    /// Does the entry table stand in the first stored bytes, which it replaces?
+    pub entries_in_stored: bool,
+    pub imported: Vec<u8>,
+    /// How many segments there are. All of them have the same stored bytes and
+    /// records.
+    pub segments: usize,
 }
 
 /// The eight bytes of a fixup record.
@@ -66,6 +75,9 @@ impl Module {
             allocation: bytes,
             records: Vec::new(),
             entries: Vec::new(),
+            entries_in_stored: false,
+            imported: IMPORTED_NAMES.to_vec(),
+            segments: SEGMENTS,
         }
     }
 
@@ -80,33 +92,54 @@ impl Module {
 
     /// The module's bytes, and where the stored ones are in them.
     pub fn image(&self) -> (Vec<u8>, Range<usize>) {
-        let tables = HEADER + ENTRY_TABLE + self.entries.len();
-        let start = tables.next_multiple_of(1 << SHIFT);
+        let tables = self.tables();
+        let lengths: usize = tables.iter().map(|(_, table)| table.len()).sum();
+        let start = (HEADER_END + lengths).next_multiple_of(1 << SHIFT);
         let mut image = vec![0; start];
-        self.headers(&mut image);
+        self.headers(&mut image, start);
+        let mut at = HEADER_END;
+        for (field, table) in tables {
+            put(&mut image, HEADER + field, at - HEADER);
+            image[at..][..table.len()].copy_from_slice(&table);
+            at += table.len();
+        }
         self.segment_table(&mut image, start);
-        put(&mut image, HEADER + MODULE_REFERENCES, 1);
-        image[HEADER + IMPORTED..][..IMPORTED_NAMES.len()].copy_from_slice(IMPORTED_NAMES);
-        image[HEADER + ENTRY_TABLE..][..self.entries.len()].copy_from_slice(&self.entries);
         image.extend(&self.stored);
         let stored = start..image.len();
+        if self.entries_in_stored {
+            image[start..][..self.entries.len()].copy_from_slice(&self.entries);
+        }
         image.extend((self.records.len() as u16).to_le_bytes());
         image.extend(self.records.iter().flatten());
         (image, stored)
     }
 
-    fn headers(&self, image: &mut [u8]) {
+    /// The tables behind the header, each with the field that has its place. That
+    /// is a word, so the longest table is the last one.
+    fn tables(&self) -> Vec<(usize, Vec<u8>)> {
+        let mut tables = vec![
+            (SEGMENT_TABLE_FIELD, vec![0; 8 * self.segments]),
+            (0x28, MODULE_REFERENCES.to_vec()),
+            (0x2A, self.imported.clone()),
+        ];
+        if !self.entries_in_stored {
+            tables.push((ENTRY_TABLE_FIELD, self.entries.clone()));
+        }
+        tables.sort_by_key(|(_, table)| table.len());
+        tables
+    }
+
+    /// The entry table's place is that of the stored bytes until it gets one of
+    /// its own.
+    fn headers(&self, image: &mut [u8], start: usize) {
         image[..2].copy_from_slice(b"MZ");
         put(image, 0x3C, HEADER);
         image[HEADER..][..2].copy_from_slice(b"NE");
         let fields = [
-            (0x04, ENTRY_TABLE),
+            (ENTRY_TABLE_FIELD, start - HEADER),
             (0x06, self.entries.len()),
-            (0x1C, 4),
-            (0x1E, 1),
-            (0x22, SEGMENT_TABLE),
-            (0x28, MODULE_REFERENCES),
-            (0x2A, IMPORTED),
+            (0x1C, self.segments),
+            (0x1E, MODULE_REFERENCES.len() / 2),
             (0x32, SHIFT),
         ];
         for (at, value) in fields {
@@ -114,16 +147,19 @@ impl Module {
         }
     }
 
-    /// The first segment's record, and three of segments that are only targets.
     fn segment_table(&self, image: &mut [u8], start: usize) {
         let flags = if self.records.is_empty() { 0 } else { 0x0100 };
-        let first = [start >> SHIFT, self.stored.len(), flags, self.allocation];
-        let target = [0, 0, 0, 256];
-        let rows = [first, target, target, target];
-        for (n, &value) in rows.iter().flatten().enumerate() {
-            put(image, HEADER + SEGMENT_TABLE + 2 * n, value);
+        let row = [start >> SHIFT, self.stored.len(), flags, self.allocation];
+        let table = HEADER + word(image, HEADER + SEGMENT_TABLE_FIELD);
+        let values = row.iter().cycle().take(4 * self.segments);
+        for (n, &value) in values.enumerate() {
+            put(image, table + 2 * n, value);
         }
     }
+}
+
+fn word(bytes: &[u8], at: usize) -> usize {
+    usize::from(u16::from_le_bytes([bytes[at], bytes[at + 1]]))
 }
 
 /// Puts the low word of a number; 65,536 becomes 0, as a length word has it.

@@ -23,7 +23,7 @@ impl Noise {
         self.next() as u8
     }
 
-    pub fn shuffle(&mut self, items: &mut [usize]) {
+    pub fn shuffle<T>(&mut self, items: &mut [T]) {
         for last in (1..items.len()).rev() {
             items.swap(last, self.below(last + 1));
         }

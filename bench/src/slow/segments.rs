@@ -1,0 +1,72 @@
+//! The slowest segment of each family, beside direct ones.
+
+use super::search::worst;
+use crate::buffers::Buffers;
+use crate::measure::{median, outcome, rounds, time};
+use crate::programs::{LIBRARY, PROGRAMS, SECOND};
+use bench::answer::Answer;
+use bench::inputs::Input;
+use bench::slowest::{families, Candidate, Family, Size, Types};
+use std::time::Duration;
+
+/// How long a family is measured, unless the fewest rounds take longer.
+const ENOUGH: Duration = Duration::from_secs(1);
+
+/// The worst segment of a family.
+pub struct Found {
+    pub family: &'static str,
+    pub variant: String,
+    pub types: Types,
+    /// Of preparing it.
+    pub seconds: f64,
+}
+
+/// Prints a line for each family.
+pub fn table() -> Vec<Found> {
+    println!("The slowest segment of each family, by the same sites and types with direct targets");
+    println!("(bare: and with no tables that these don't need)\n");
+    println!("| Family | Worst | Records | Sites | by direct | by bare | ns a site or record |");
+    println!("|---|---|---|---|---|---|---|");
+    families(Size::LARGEST).iter().map(line).collect()
+}
+
+fn line(family: &Family) -> Found {
+    let (variant, types) = worst(family);
+    let candidate = variant.candidate(types);
+    let [slow, direct, bare] = times(&candidate);
+    let (records, sites) = (candidate.slow.records, candidate.sites);
+    let nanoseconds = 1e9 * slow / records.max(sites) as f64;
+    println!(
+        "| {} | {}; {types} | {records} | {sites} | {:.2} | {:.2} | {nanoseconds:.1} |",
+        family.name,
+        variant.name,
+        slow / direct,
+        slow / bare
+    );
+    Found {
+        family: family.name,
+        variant: variant.name.clone(),
+        types,
+        seconds: slow,
+    }
+}
+
+/// The median time of each.
+fn times(candidate: &Candidate) -> [f64; 3] {
+    agree(&candidate.slow, candidate.sites);
+    let inputs = [&candidate.slow, &candidate.direct, &candidate.bare];
+    let mut buffers = inputs.map(Buffers::new);
+    let mut seen = inputs.map(|_| Vec::new());
+    rounds(&mut seen, ENOUGH, |index| {
+        time(PROGRAMS[LIBRARY], inputs[index], &mut buffers[index], 1)
+    });
+    seen.map(median)
+}
+
+/// Asserts that the library does what the second program does, with so many
+/// sites. The careful one would take too long.
+fn agree(input: &Input, sites: usize) {
+    let [library, second] = [LIBRARY, SECOND].map(|program| outcome(program, input));
+    assert_eq!(library.0, Answer::accepted(sites as u32), "{}", input.name);
+    assert!(library == second, "{}: not as the second", input.name);
+}
