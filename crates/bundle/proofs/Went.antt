@@ -21,7 +21,7 @@ use Rattle.checks.proofs.Checks.{passed, answered}
 use Rattle.bundle.specs.declared.Bundle.{Bundle}
 use Rattle.bundle.specs.declared.Step.{Step}
 use Rattle.bundle.specs.declared.Step.the-variants.{Next, End, Refused}
-use Rattle.bundle.specs.Bundle.{widthOf, headOf, stepOf, bundleAt, bundleChecks, unsoundFrom}
+use Rattle.bundle.specs.Bundle.{kindOf, widthOf, headOf, stepOf, bundleAt, bundleChecks, unsoundFrom}
 
 is-refusal : Step → Bool
 is-refusal (Next b) = false
@@ -106,9 +106,9 @@ module _ (table : List ℕ) (segments at used : ℕ) where
   unfolding bundleChecks
   entries-sound b e = let c = checked b e in rw (c .0) (c .2 .1 .1 .1 .0)
 
-  pub head-next : (b : Bundle) → stepOf table segments at used ≡ Next b → headOf table at ≡ record { count = b .count; kind = b .kind }
+  pub head-next : (b : Bundle) → stepOf table segments at used ≡ Next b → (headOf table at .count ≡ b .count) × (kindOf (headOf table at .segment) ≡ b .kind)
   unfolding headOf bundleAt
-  head-next b e = rw (went b e .is)
+  head-next b e = rw (went b e .is) (refl, refl)
 
   pub head-end : stepOf table segments at used ≡ End → headOf table at .count ≡ 0
   unfolding headOf stepOf is-refusal

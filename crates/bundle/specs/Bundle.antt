@@ -48,7 +48,7 @@ unsoundFrom (suc count) table segments kind at = entryUnsound segments kind (dro
 
 -- "bundles of a count byte and a segment byte": these two at a place of the table.
 unfoldable pub headOf : List ℕ → ℕ → Head
-headOf table at = record { count = byteAt table at; kind = kindOf (byteAt table (at + 1)) }
+headOf table at = record { count = byteAt table at; segment = byteAt table (at + 1) }
 
 -- The bundle at a place of the table, where `used` ordinals come before it.
 unfoldable pub bundleAt : List ℕ → ℕ → ℕ → Bundle

@@ -1,6 +1,9 @@
 // One bundle of the entry table: what its segment byte says, its entries, and its checks (12, 14, 12, 13).
+mod arithmetic;
 mod steps;
 
+pub use arithmetic::entry_of;
+pub use arithmetic::width_of;
 use refusal::Refusal;
 pub use steps::head_at;
 pub use steps::next;
@@ -28,7 +31,7 @@ pub struct Bundle {
 // The two bytes in front of a bundle's entries. A count of 0 ends the table.
 pub struct Head {
     pub count: u32,
-    pub kind: Kind,
+    pub segment: u8,
 }
 
 // What stands at a place of the table: a bundle, the end byte, or why the table is unsound here.

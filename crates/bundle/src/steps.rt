@@ -11,7 +11,7 @@ ghost use lib.ListN.{length};
 ghost use Rattle.bundle.specs.Bundle.{widthOf, kindOf, headOf, entryUnsound, unsoundFrom, stepOf};
 
 // What a segment byte says.
-fn kind(segment: u8) -> Kind
+fn kind_of(segment: u8) -> Kind
     ensures { λ r. ⌜ r ≡ kindOf segment ⌝ }
 {
     match segment {
@@ -28,12 +28,12 @@ pub fn head_at(table: &[u8], at: usize) -> Head
     if table.len() <= at {
         return Head {
             count: 0,
-            kind: Kind::Null,
+            segment: 0,
         };
     }
     Head {
         count: le::byte(table, at) as u32,
-        kind: kind(le::byte(table, at + 1)),
+        segment: le::byte(table, at + 1),
     }
 }
 
@@ -59,7 +59,7 @@ pub fn next(table: &[u8], segments: u32, at: usize, used: u32) -> Step
     if 65535 < used as usize + count {
         return Step::Refused(Refusal::OrdinalsOver);
     }
-    let kind = kind(le::byte(table, at + 1));
+    let kind = kind_of(le::byte(table, at + 1));
     let end = first + width(kind) * count;
     if len < end {
         return Step::Refused(Refusal::EntryTableEnds);

@@ -1,5 +1,5 @@
 pub mod Covers
-pub mod Rest
+pub mod Marks
 pub mod Turns
 pub mod Walks
 pub mod Induction
@@ -7,3 +7,4 @@ pub mod Follow
 pub mod Resolves
 pub mod Segments
 pub mod Why
+pub mod Indexed

@@ -15,7 +15,7 @@ use Rattle.bundle.specs.declared.Step as step
 use Rattle.bundle.specs.declared.Step.the-variants as steps
 use Rattle.bundle.specs.Bundle.{stepOf}
 use Rattle.bundle.proofs.Went.{Went, went}
-use Rattle.entry.specs.Table.{behind, asStep, bundleStep, EntryTable, tableOf}
+use Rattle.entry.specs.Table.{behind, asStep, bundleStep, tableAt, tableOf}
 
 module _ (table : List ℕ) (segments : ℕ) where
   -- A step that goes on does so over a bundle that passed its checks.
@@ -30,13 +30,9 @@ module _ (table : List ℕ) (segments : ℕ) where
       let w = g .1 .0 in
       rw (g .1 .2) (omega (arith, w .on, w .room), w .end)
 
-  -- The table from a place on.
-  abbrev pub tableAt : ℕ → ℕ → EntryTable
-  tableAt at used = tables.tableOf (bundleStep table segments) EntryTableEnds (length table) (record { at = at; used = used })
-
-  pub unrolled : (at used : ℕ) (s : step.Step) → stepOf table segments at used ≡ s → tableAt at used ≡ onStep (asStep s) Unsound (Sound []) (λ bs t. after bs (tables.tableOf (bundleStep table segments) EntryTableEnds (length table) t))
+  pub unrolled : (at used : ℕ) (s : step.Step) → stepOf table segments at used ≡ s → tableAt table segments at used ≡ onStep (asStep s) Unsound (Sound []) (λ bs t. after bs (tables.tableOf (bundleStep table segments) EntryTableEnds (length table) t))
   unrolled at used s e = tables-laws.unrolled (bundleStep table segments) EntryTableEnds (length table) on (record { at = at; used = used }) ∙ rw e
 
-  pub whole : tableOf table segments ≡ tableAt 0 0
+  pub whole : tableOf table segments ≡ tableAt table segments 0 0
   unfolding tableOf
   whole = refl

@@ -34,9 +34,13 @@ bundleStep table segments p = asStep (stepOf table segments (p .at) (p .used))
 abbrev pub EntryTable : Type 0
 EntryTable = Table Bundle Refusal
 
--- A whole table, in a module of this many segments. It starts at its first byte, with no ordinal before it.
+-- The table from a place on, where `used` ordinals come before it, in a module of this many segments.
+abbrev pub tableAt : List ℕ → ℕ → ℕ → ℕ → EntryTable
+tableAt table segments at used = tables.tableOf (bundleStep table segments) EntryTableEnds (length table) (record { at = at; used = used })
+
+-- A whole table. It starts at its first byte, with no ordinal before it.
 unfoldable pub tableOf : List ℕ → ℕ → EntryTable
-tableOf table segments = tables.tableOf (bundleStep table segments) EntryTableEnds (length table) (record { at = 0; used = 0 })
+tableOf table segments = tableAt table segments 0 0
 
 -- "Ordinals count from 1."
 abbrev pub covers : Bundle → ℕ → Bool

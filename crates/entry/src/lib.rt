@@ -2,6 +2,7 @@
 //
 // One walk, bundle by bundle, checks the table for all who read it. Whoever knows that it is sound goes from head to head instead.
 mod heads;
+mod index;
 mod slots;
 mod whole;
 
@@ -9,6 +10,7 @@ use bundle::Answer;
 use bundle::Kind;
 use header::Header;
 pub use heads::find;
+pub use index::fill;
 use refusal::Refusal;
 pub use whole::walk;
 ghost use mathlib.Core.Path.{_≡_};

@@ -5,9 +5,14 @@ use segment::Segment;
 ghost use mathlib.Core.Path.{_≡_};
 ghost use Prim.Native.Nat.{_≤_};
 ghost use lib.ListN.{length};
+ghost use Rattle.entry.specs.Ordinal.{tableBytes};
+ghost use Rattle.entry.specs.Index.{Indexes};
 ghost use Rattle.target.specs.Checked.{Checked};
 ghost use Rattle.follow.specs.Pass.{SameSize};
 ghost use Rattle.loader.specs.Run.{ran, runFrom, actionsIn};
+
+// Up to this many records, times bytes of the entry table, looking ordinals up from the table's start costs no more than an index.
+const LITTLE: usize = 1024;
 
 // Goes over all records of a segment, once the entry table is checked: each is resolved, and its sites are claimed in the marks and
 // written into `bytes`. Both have a byte for each stored one.
@@ -24,6 +29,67 @@ pub fn all(
     requires { ⌜ SameSize (now stored) (now marks) (now bytes) × (s .records ≤ length (now answers)) × Checked (now image) h ⌝ }
     ensures { λ r. ⌜ ran r (now (marks .exit)) (now (bytes .exit)) ≡ runFrom (now (stored .entry)) (actionsIn (now (image .entry)) h s (now (selectors .entry)) (now (answers .entry))) 1 0 (now (marks .entry)) (now (bytes .entry)) ⌝ }
 {
+    if s.records as usize * h.entries.count as usize <= LITTLE {
+        let start = [0u32; 1];
+        return each(
+            image,
+            h,
+            s,
+            &start,
+            selectors,
+            answers,
+            stored,
+            marks,
+            bytes,
+        );
+    }
+    indexed(image, h, s, selectors, answers, stored, marks, bytes)
+}
+
+// The same with an index, so that no ordinal is far however many bundles there are.
+fn indexed(
+    image: &[u8],
+    h: Header,
+    s: Segment,
+    selectors: &[u16],
+    answers: &[u32],
+    stored: &[u8],
+    marks: &mut [u8],
+    bytes: &mut [u8],
+) -> Answer
+    requires { ⌜ SameSize (now stored) (now marks) (now bytes) × (s .records ≤ length (now answers)) × Checked (now image) h ⌝ }
+    ensures { λ r. ⌜ ran r (now (marks .exit)) (now (bytes .exit)) ≡ runFrom (now (stored .entry)) (actionsIn (now (image .entry)) h s (now (selectors .entry)) (now (answers .entry))) 1 0 (now (marks .entry)) (now (bytes .entry)) ⌝ }
+{
+    let mut ordinals = [0u32; 16384];
+    entry::fill(entry::table(image, h), &mut ordinals);
+    each(
+        image,
+        h,
+        s,
+        &ordinals,
+        selectors,
+        answers,
+        stored,
+        marks,
+        bytes,
+    )
+}
+
+// The same where `ordinals` is an index of the entry table.
+fn each(
+    image: &[u8],
+    h: Header,
+    s: Segment,
+    ordinals: &[u32],
+    selectors: &[u16],
+    answers: &[u32],
+    stored: &[u8],
+    marks: &mut [u8],
+    bytes: &mut [u8],
+) -> Answer
+    requires { ⌜ SameSize (now stored) (now marks) (now bytes) × (s .records ≤ length (now answers)) × Checked (now image) h × Indexes (tableBytes (now image) h) (now ordinals) ⌝ }
+    ensures { λ r. ⌜ ran r (now (marks .exit)) (now (bytes .exit)) ≡ runFrom (now (stored .entry)) (actionsIn (now (image .entry)) h s (now (selectors .entry)) (now (answers .entry))) 1 0 (now (marks .entry)) (now (bytes .entry)) ⌝ }
+{
     let place = s.list;
     let list = le::slice::from(image, place);
     let mut index = 0;
@@ -31,7 +97,7 @@ pub fn all(
     while index < s.records {
         let import = answers[index as usize];
         let record = target::record(list, index);
-        let action = target::action(image, h, selectors, import, record);
+        let action = target::action(image, h, ordinals, selectors, import, record);
         let answer = follow::action(stored, action, sites, marks, bytes);
         match answer {
             follow::Answer::Halted(why) => {

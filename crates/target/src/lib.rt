@@ -14,18 +14,27 @@ use site::Kind;
 ghost use mathlib.Core.Path.{_≡_};
 ghost use mathlib.Core.Bool.{false};
 ghost use Prim.Native.Nat.{ℕ};
+ghost use Rattle.entry.specs.Ordinal.{tableBytes};
+ghost use Rattle.entry.specs.Index.{Indexes};
 ghost use Rattle.target.specs.Checked.{Checked, Counted, byOrdinal};
 ghost use Rattle.fixup.specs.Record.{typedOf};
 ghost use Rattle.fixup.specs.Target.{entryTarget};
 ghost use Rattle.fixup.specs.Action.{ofType, actionOf};
 
-// What a record asks for, where the entry table is known to be sound.
-pub fn action(image: &[u8], h: Header, selectors: &[u16], answer: u32, r: Record) -> Action
-    requires { ⌜ Checked (now image) h ⌝ }
+// What a record asks for, where the entry table is known to be sound and there is an index of it.
+pub fn action(
+    image: &[u8],
+    h: Header,
+    index: &[u32],
+    selectors: &[u16],
+    answer: u32,
+    r: Record,
+) -> Action
+    requires { ⌜ Checked (now image) h × Indexes (tableBytes (now image) h) (now index) ⌝ }
     ensures { λ a. ⌜ a ≡ actionOf (now (image .entry)) h (now (selectors .entry)) answer r ⌝ }
 {
     if by_ordinal(r) {
-        let entry = entry::find(entry::table(image, h), r.last as u32);
+        let entry = entry::find(entry::table(image, h), index, r.last as u32);
         return to_entry(selectors, r, entry);
     }
     to_other(image, h, selectors, answer, r)

@@ -21,25 +21,27 @@ cast-find : tie.Need-cast-find
 cast-find c = search needs
 
 find-requires : tie.Need-find-requires
-find-requires c κs = search needs
+find-requires c κs =
+    let start = c .before .before .before .before .before .before .before in
+    rw (c .before .table .ensures) (start .pre .1)
 
-found : (c : tie.After-find) → let a = c .before .before .before .before .before .before .before .args in c .find .result ≡ ordinalIn (now (a .image)) (a .h) (a .r .last)
+found : (c : tie.After-find) → let a = c .before .before .before .before .before .before .before .before .args in c .find .result ≡ ordinalIn (now (a .image)) (a .h) (a .r .last)
 unfolding ordinalIn
 found c =
-    let start = c .before .before .before .before .before .before .before in
+    let start = c .before .before .before .before .before .before .before .before in
     let a = start .args in
-    let checked : Checked (now (a .image)) (a .h) = start .pre in
+    let checked : Checked (now (a .image)) (a .h) = start .pre .0 in
     let is : c .find .result ≡ inTable (tableBytes (now (a .image)) (a .h)) (Sound (checked .0)) (a .r .last) = rw (c .before .before .table .ensures) at (c .find .ensures) (a .h .segments .count) (checked .0) (checked .1) in
     rw (checked .1) is
 
 to-entry-requires : tie.Need-to-entry-requires
 to-entry-requires c κs =
-    let a = c .before .before .before .before .before .before .before .args in
+    let a = c .before .before .before .before .before .before .before .before .args in
     rw (found c) (counted (now (a .image)) (a .h) (a .r .last))
 
 returns : tie.Need-returns
 returns c =
-    let start = c .before .before .before .before .before .before .before .before in
+    let start = c .before .before .before .before .before .before .before .before .before in
     let a = start .args in
     let ordinal : byOrdinal (a .r) ≡ true = sym (c .before .before .before .before .before .by-ordinal .ensures) ∙ c .before .before .before .before .if1 .taken in
     rw (by-entry (now (a .image)) (a .h) (now (a .selectors)) (a .answer) (a .r) ordinal, ← found (c .before)) (c .to-entry .ensures (a .answer))

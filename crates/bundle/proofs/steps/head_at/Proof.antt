@@ -1,18 +1,18 @@
 -- `bundle::steps::head_at` meets its contract: a byte past the table counts as 0.
 -- Assumes nothing.
-use mathlib.Core.Path.{_≡_, _∙_, ap}
+use mathlib.Core.Path.{_≡_}
 use Prim.Native.Nat.{_+_, _≤_}
 use native.Mathlib.Omega.{arith}
 use borrow.Author.Needs.{needs}
 use denote.Ref.{now}
 use lib.ListN.{length, List·getD-eq-default}
 use Rattle.le.specs.Number.{byteAt}
-use Rattle.bundle.specs.Bundle.{kindOf, headOf}
+use Rattle.bundle.specs.Bundle.{headOf}
 use Rattle.bundle.proofs.steps.head_at.Statement.{statement}
 use Rattle.bundle.proofs.steps.head_at.Tie as tie
 
 returns : tie.Need-returns
-unfolding headOf kindOf
+unfolding headOf
 returns c =
     let a = c .before .before .args in
     let none : byteAt (now (a .table)) (a .at) ≡ 0 = List·getD-eq-default (now (a .table)) 0 (c .if1 .taken) in
@@ -23,8 +23,8 @@ returns c =
 byte-requires : tie.Need-byte-requires
 byte-requires c κs = search needs
 
-cast-t7 : tie.Need-cast-t7
-cast-t7 c = search needs
+cast-t6 : tie.Need-cast-t6
+cast-t6 c = search needs
 
 add-byte : tie.Need-add-byte
 add-byte c = search needs
@@ -32,18 +32,15 @@ add-byte c = search needs
 byte-requires-2 : tie.Need-byte-requires-2
 byte-requires-2 c κs = search needs
 
-kind-requires : tie.Need-kind-requires
-kind-requires c κs = search needs
-
 returns-2 : tie.Need-returns-2
 unfolding headOf
 returns-2 c =
-    let a = c .before .before .before .before .before .args in
-    let count : c .before .before .byte .result ≡ byteAt (now (a .table)) (a .at) = c .before .before .byte .ensures in
-    let kind : c .kind .result ≡ kindOf (byteAt (now (a .table)) (a .at + 1)) = c .kind .ensures ∙ ap kindOf (c .before .byte2 .ensures) in
-    rw (count, kind)
+    let a = c .before .before .before .before .args in
+    let count : c .before .byte .result ≡ byteAt (now (a .table)) (a .at) = c .before .byte .ensures in
+    let segment : c .byte2 .result ≡ byteAt (now (a .table)) (a .at + 1) = c .byte2 .ensures in
+    rw (count, segment)
 
 pub head-at-spec : {M : Type 1} → statement M
 head-at-spec =
     tie.close
-    (tie.spec returns byte-requires cast-t7 add-byte byte-requires-2 kind-requires returns-2)
+    (tie.spec returns byte-requires cast-t6 add-byte byte-requires-2 returns-2)

@@ -48,8 +48,8 @@ segment-byte c = omega arith
 few-ordinals : (c : tie.Else5) → used (c .before .before) + byteAt (table (c .before .before)) (place (c .before .before)) ≤ 65535
 few-ordinals c = rw (sym (count (c .before .before))) (omega arith)
 
-kind-is : (c : tie.After-kind) → c .kind .result ≡ kind (c .before .before .before .before)
-kind-is c = c .kind .ensures ∙ rw (c .before .byte2 .ensures)
+kind-is : (c : tie.After-kind-of) → c .kind-of .result ≡ kind (c .before .before .before .before)
+kind-is c = c .kind-of .ensures ∙ rw (c .before .byte2 .ensures)
 
 product : {a b m n : ℕ} → a ≡ m → b ≡ n → a * b ≡ m * n
 product p q = rw (p, q)
@@ -123,8 +123,8 @@ add-byte c = search needs
 byte-requires-2 : tie.Need-byte-requires-2
 byte-requires-2 c κs = search needs
 
-kind-requires : tie.Need-kind-requires
-kind-requires c κs = search needs
+kind-of-requires : tie.Need-kind-of-requires
+kind-of-requires c κs = search needs
 
 width-requires : tie.Need-width-requires
 width-requires c κs = search needs
@@ -185,7 +185,7 @@ next-spec =
     returns-5
     add-byte
     byte-requires-2
-    kind-requires
+    kind-of-requires
     width-requires
     mul-end
     add-end

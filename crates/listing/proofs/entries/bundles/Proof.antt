@@ -12,9 +12,9 @@ use lib.ListN.{length}
 use Rattle.checks.proofs.Impossible.{never}
 use Rattle.bundle.specs.declared.Bundle.{Bundle}
 use Rattle.tables.specs.Table.{Sound, Unsound, after}
-use Rattle.entry.specs.Table.{EntryTable, tableOf}
+use Rattle.entry.specs.Table.{EntryTable, tableAt, tableOf}
 use Rattle.bundle.proofs.Went.{Went, went}
-use Rattle.entry.proofs.Turns.{tableAt, unrolled, whole}
+use Rattle.entry.proofs.Turns.{unrolled, whole}
 use Rattle.listing.specs.Bundles.{bundleLines, bundlesLines, tableLines, isSound}
 use Rattle.listing.proofs.Writing.{Still, start, more, done}
 use Rattle.listing.proofs.entries.bundles.Statement.{statement}

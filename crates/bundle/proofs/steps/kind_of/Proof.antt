@@ -1,9 +1,9 @@
--- `bundle::steps::kind` meets its contract: each arm's test is the definition's.
+-- `bundle::steps::kind_of` meets its contract: each arm's test is the definition's.
 -- Assumes nothing.
 use borrow.Author.Tests.{eq-eqb, ne-eqb}
 use Rattle.bundle.specs.Bundle.{kindOf}
-use Rattle.bundle.proofs.steps.kind.Statement.{statement}
-use Rattle.bundle.proofs.steps.kind.Tie as tie
+use Rattle.bundle.proofs.steps.kind_of.Statement.{statement}
+use Rattle.bundle.proofs.steps.kind_of.Tie as tie
 
 returns : tie.Need-returns
 unfolding kindOf
@@ -17,5 +17,5 @@ returns-3 : tie.Need-returns-3
 unfolding kindOf
 returns-3 c = rw (ne-eqb _ 0 (c .match .rest .0 .1), ne-eqb _ 255 (c .match .rest .1))
 
-pub kind-spec : {M : Type 1} → statement M
-kind-spec = tie.close (tie.spec returns returns-2 returns-3)
+pub kind-of-spec : {M : Type 1} → statement M
+kind-of-spec = tie.close (tie.spec returns returns-2 returns-3)
