@@ -192,7 +192,7 @@ struct ne_prepare_result {
  * Refusals: 1 to 7, then 8, then 12 to 14 for the whole entry table, then 10, 11, 9, 21, then record by record 22, 23, and
  * at each site 24, 25, 26.
  *
- * Stack: under 80 KiB.
+ * Stack: under 144 KiB. That is more than some systems give a thread that asks for nothing else, as musl's 128 KiB.
  */
 struct ne_prepare_result ne_prepare(const uint8_t *image, size_t image_len, uint32_t number, const uint16_t *selectors,
                                     size_t selectors_len, const uint32_t *answers, size_t answers_len, uint8_t *output,

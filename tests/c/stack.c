@@ -12,7 +12,7 @@
 #include <sys/mman.h>
 
 /* What the header says. */
-#define STATED (80u * 1024u)
+#define STATED (144u * 1024u)
 
 #define STACK (1024u * 1024u)
 #define PAINT 0xa5

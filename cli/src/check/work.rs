@@ -2,16 +2,16 @@
 
 use parchgable::{Header, Image};
 
-/// Steps that are taken on one file at most, about a minute's.
+/// Steps that are taken on one file at most, some seconds'.
 ///
-/// Without it a file of a megabyte could keep a job for days: 65,535 segments
-/// that share 65,535 records, each of which goes over a long entry table.
-/// Segments without records always fit, however many there are.
-const MOST: u64 = 1 << 34;
+/// Without it a file of a megabyte could keep a job for minutes: 65,535
+/// segments that share 65,535 records. Segments without records always fit,
+/// however many there are.
+const MOST: u64 = 1 << 33;
 /// The bytes that a segment has at most, which are copied or cleared.
 const BYTES: u64 = 65_536;
-/// The bytes of a record, which are read.
-const RECORD: u64 = 8;
+/// Steps for a record: its 8 bytes, and as many more for its target.
+const RECORD: u64 = 16;
 
 pub struct Work {
     left: u64,
@@ -29,8 +29,7 @@ impl Work {
         // One that is refused here has no records that are gone over.
         let records = image.segment(number).map_or(0, |segment| segment.records);
         let table = u64::from(header.entries_len);
-        // A record may go over all bundles, of two bytes or more.
-        let steps = BYTES + table + u64::from(records) * (RECORD + table / 2);
+        let steps = BYTES + table + u64::from(records) * RECORD;
         let left = self.left.checked_sub(steps);
         self.left = left.unwrap_or_default();
         left.is_some()

@@ -3,6 +3,7 @@
 mod examples;
 mod header;
 mod large;
+mod ordinals;
 mod segments;
 mod tables;
 mod targets;
@@ -44,6 +45,7 @@ pub fn specials() -> Vec<Special> {
     all.extend(targets::targets());
     all.extend(tables::tables());
     all.extend(large::large());
+    all.extend(ordinals::ordinals());
     all
 }
 

@@ -136,7 +136,8 @@ loop-again c =
     let l = c .before .before .before .before .loop in
     let h = c .before .before .before .head-at in
     let used : a .number - 1 - (l .left - h .result .count) ≡ a .number - 1 - l .left + h .result .count = omega arith in
-    (omega arith, λ segments bundles sound. rw (c .width-of2 .ensures .0, used) (mark-goes-on (now (a .table)) segments bundles (l .at) (a .number - 1 - l .left) (l .inv .1 segments bundles sound) (h .result) (h .ensures) (omega arith)))
+    let low : l .left - h .result .count < a .number = omega arith in
+    (low, λ segments bundles sound. rw (c .width-of2 .ensures .0, used) (mark-goes-on (now (a .table)) segments bundles (l .at) (a .number - 1 - l .left) (l .inv .1 segments bundles sound) (h .result) (h .ensures) (omega arith)))
 
 pub find-spec : {M : Type 1} → statement M
 find-spec =
