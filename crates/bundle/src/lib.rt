@@ -1,15 +1,13 @@
 // One bundle of the entry table: what its segment byte says, its entries, and its checks (12, 14, 12, 13).
-mod arithmetic;
 mod steps;
 
-pub use arithmetic::entry_of;
-pub use arithmetic::width_of;
 use refusal::Refusal;
 pub use steps::head_at;
+pub use steps::kind_of;
 pub use steps::next;
 ghost use mathlib.Core.Path.{_≡_};
 ghost use Prim.Native.Nat.{_≤_};
-ghost use Rattle.bundle.specs.Bundle.{widthOf, entryOf};
+ghost use Rattle.bundle.specs.Bundle.{kindOf, widthOf, entryOf};
 
 // What a bundle's segment byte says: its ordinals have no entries, movable entries, or entries in a segment of this number.
 pub enum Kind {
@@ -62,6 +60,15 @@ pub fn width(kind: Kind) -> usize
         Kind::Movable => 6,
         Kind::Fixed(_) => 3,
     }
+}
+
+// The same from the segment byte, by arithmetic alone: in a table of mixed bundles a branch is guessed wrong each time.
+pub fn width_of(segment: u8) -> usize
+    ensures { λ r. ⌜ (r ≡ widthOf (kindOf segment)) × (r ≤ 6) ⌝ }
+{
+    let movable = segment / 255;
+    let null = (255 - segment) / 255;
+    (3 * (1 + movable - null)) as usize
 }
 
 // What the entry says that starts at the first byte of `e`.

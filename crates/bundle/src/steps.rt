@@ -11,7 +11,7 @@ ghost use lib.ListN.{length};
 ghost use Rattle.bundle.specs.Bundle.{widthOf, kindOf, headOf, entryUnsound, unsoundFrom, stepOf};
 
 // What a segment byte says.
-fn kind_of(segment: u8) -> Kind
+pub fn kind_of(segment: u8) -> Kind
     ensures { λ r. ⌜ r ≡ kindOf segment ⌝ }
 {
     match segment {

@@ -32,8 +32,9 @@ pub fn find(table: &[u8], index: &[u32], number: u32) -> Answer
         }
         let first = at + 2;
         if left < count {
-            let place = first + bundle::width_of(head.segment) * left as usize;
-            return bundle::entry_of(head.segment, le::slice::from(table, place));
+            let kind = bundle::kind_of(head.segment);
+            let place = first + bundle::width(kind) * left as usize;
+            return bundle::read_entry(kind, le::slice::from(table, place));
         }
         left -= count;
         at = first + bundle::width_of(head.segment) * count as usize;

@@ -35,11 +35,11 @@ inside c =
     let table = now (c .before .before .before .before .before .before .before .args .table) in
     head-inside table (c .before .before .loop .at) (λ none. c .if2 .left (rw (c .before .head-at .ensures) none))
 
-place-below : (c : tie.After-width-of Inv-loop μ-loop) → c .width-of .result * c .before .before .before .before .loop .left < 2 ^ 35
-place-below c = offset-below (c .width-of .result) (c .before .before .before .before .loop .left) (c .width-of .ensures .1) (omega arith)
+place-below : (c : tie.After-width Inv-loop μ-loop) → c .width .result * c .before .before .before .before .before .loop .left < 2 ^ 35
+place-below c = offset-below (c .width .result) (c .before .before .before .before .before .loop .left) (c .width .ensures .1) (omega arith)
 
-end-below : (c : tie.After-width-of2 Inv-loop μ-loop) → c .width-of2 .result * c .before .before .before .head-at .result .count < 2 ^ 35
-end-below c = offset-below (c .width-of2 .result) (c .before .before .before .head-at .result .count) (c .width-of2 .ensures .1) (omega arith)
+end-below : (c : tie.After-width-of Inv-loop μ-loop) → c .width-of .result * c .before .before .before .head-at .result .count < 2 ^ 35
+end-below c = offset-below (c .width-of .result) (c .before .before .before .head-at .result .count) (c .width-of .ensures .1) (omega arith)
 
 returns : tie.Need-returns Inv-loop μ-loop
 returns c =
@@ -81,8 +81,11 @@ returns-2 c =
 add-first : tie.Need-add-first Inv-loop μ-loop
 add-first c = let i = inside c in omega arith
 
-width-of-requires : tie.Need-width-of-requires Inv-loop μ-loop
-width-of-requires c κs = search needs
+kind-of-requires : tie.Need-kind-of-requires Inv-loop μ-loop
+kind-of-requires c κs = search needs
+
+width-requires : tie.Need-width-requires Inv-loop μ-loop
+width-requires c κs = search needs
 
 cast-place : tie.Need-cast-place Inv-loop μ-loop
 cast-place c = search needs
@@ -93,27 +96,28 @@ mul-place c = let below = place-below c in omega arith
 add-place : tie.Need-add-place Inv-loop μ-loop
 add-place c =
     let below = place-below c in
-    let i = inside (c .before .before) in
+    let i = inside (c .before .before .before) in
     omega arith
 
 from-requires : tie.Need-from-requires Inv-loop μ-loop
 from-requires c κs = search needs
 
-entry-of-requires : tie.Need-entry-of-requires Inv-loop μ-loop
-entry-of-requires c κs = search needs
+read-entry-requires : tie.Need-read-entry-requires Inv-loop μ-loop
+read-entry-requires c κs = search needs
 
 returns-3 : tie.Need-returns-3 Inv-loop μ-loop
 returns-3 c =
-    let a = c .before .before .before .before .before .before .before .before .before .before .before .args in
-    let l = c .before .before .before .before .before .before .loop in
-    let h = c .before .before .before .before .before .head-at in
-    let entry : c .entry-of .result ≡ entryOf (kindOf (h .result .segment)) (drop (l .at + 2 + widthOf (kindOf (h .result .segment)) * l .left) (now (a .table))) = c .entry-of .ensures ∙ rw (c .before .from .ensures, c .before .before .width-of .ensures .0) in
+    let a = c .before .before .before .before .before .before .before .before .before .before .before .before .args in
+    let l = c .before .before .before .before .before .before .before .loop in
+    let h = c .before .before .before .before .before .before .head-at in
+    let kind : c .before .before .before .kind-of .result ≡ kindOf (h .result .segment) = c .before .before .before .kind-of .ensures in
+    let entry : c .read-entry .result ≡ entryOf (kindOf (h .result .segment)) (drop (l .at + 2 + widthOf (kindOf (h .result .segment)) * l .left) (now (a .table))) = c .read-entry .ensures ∙ rw (c .before .from .ensures, c .before .before .width .ensures .0, kind) in
     let left : a .number - 1 - (a .number - 1 - l .left) ≡ l .left = omega arith in
     let near : a .number ≤ a .number - 1 - l .left + h .result .count = omega arith in
     λ segments bundles sound. entry ∙ rw (mark-covers (now (a .table)) segments bundles (l .at) (a .number - 1 - l .left) (l .inv .1 segments bundles sound) (h .result) (h .ensures) (a .number) (omega arith) near, left)
 
-width-of-requires-2 : tie.Need-width-of-requires-2 Inv-loop μ-loop
-width-of-requires-2 c κs = search needs
+width-of-requires : tie.Need-width-of-requires Inv-loop μ-loop
+width-of-requires c κs = search needs
 
 cast-at-2 : tie.Need-cast-at-2 Inv-loop μ-loop
 cast-at-2 c = search needs
@@ -137,7 +141,7 @@ loop-again c =
     let h = c .before .before .before .head-at in
     let used : a .number - 1 - (l .left - h .result .count) ≡ a .number - 1 - l .left + h .result .count = omega arith in
     let low : l .left - h .result .count < a .number = omega arith in
-    (low, λ segments bundles sound. rw (c .width-of2 .ensures .0, used) (mark-goes-on (now (a .table)) segments bundles (l .at) (a .number - 1 - l .left) (l .inv .1 segments bundles sound) (h .result) (h .ensures) (omega arith)))
+    (low, λ segments bundles sound. rw (c .width-of .ensures .0, used) (mark-goes-on (now (a .table)) segments bundles (l .at) (a .number - 1 - l .left) (l .inv .1 segments bundles sound) (h .result) (h .ensures) (omega arith)))
 
 pub find-spec : {M : Type 1} → statement M
 find-spec =
@@ -155,14 +159,15 @@ find-spec =
     head-at-requires
     returns-2
     add-first
-    width-of-requires
+    kind-of-requires
+    width-requires
     cast-place
     mul-place
     add-place
     from-requires
-    entry-of-requires
+    read-entry-requires
     returns-3
-    width-of-requires-2
+    width-of-requires
     cast-at-2
     mul-at
     add-at

@@ -1,4 +1,4 @@
--- `bundle::arithmetic::width_of` meets its contract: of the two quotients, one is 1 for the byte 255 alone, and the other for 0 alone.
+-- `bundle::width_of` meets its contract: of the two quotients, one is 1 for the byte 255 alone, and the other for 0 alone.
 -- Assumes nothing.
 use mathlib.Core.Path.{_≡_, refl}
 use mathlib.Core.Bool.{Bool, true, false, cond}
@@ -9,8 +9,8 @@ use borrow.Author.Needs.{needs}
 use lib.Dec.{eqb}
 use Rattle.bundle.specs.declared.Kind.the-variants.{Null, Movable, Fixed}
 use Rattle.bundle.specs.Bundle.{kindOf, widthOf}
-use Rattle.bundle.proofs.arithmetic.width_of.Statement.{statement}
-use Rattle.bundle.proofs.arithmetic.width_of.Tie as tie
+use Rattle.bundle.proofs.width_of.Statement.{statement}
+use Rattle.bundle.proofs.width_of.Tie as tie
 
 by-arithmetic : (segment : ℕ) → segment ≤ 255 → 3 * (1 + segment / 255 - (255 - segment) / 255) ≡ widthOf (kindOf segment)
 unfolding kindOf
