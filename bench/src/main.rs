@@ -1,7 +1,7 @@
 //! Compares the time that preparing a segment takes in the static library `ne`,
 //! in the second program, in careful Rust and in a plain copy. With `slowest` it
-//! looks for the segments whose preparing takes longest, and with `queries` for
-//! the images on which queries do. `bench/run` proves and builds the library,
+//! looks for the segments whose preparing takes longest, in all families or in
+//! some, and with `queries` for the images on which queries do. `bench/run` proves and builds the library,
 //! builds this program and runs it.
 
 #![deny(unsafe_code)]
@@ -20,10 +20,11 @@ fn main() -> ExitCode {
     let arguments: Vec<String> = std::env::args().skip(1).collect();
     match arguments.iter().map(String::as_str).collect::<Vec<_>>()[..] {
         [] => compare(),
-        ["slowest"] => slow::segments(),
+        ["slowest"] => slow::segments(""),
+        ["slowest", part] if slow::has_family(part) => slow::segments(part),
         ["queries"] => slow::queries(),
         _ => {
-            eprintln!("usage: bench/run [slowest | queries]");
+            eprintln!("usage: bench/run [slowest [PART OF A FAMILY'S NAME] | queries]");
             return ExitCode::from(2);
         }
     }

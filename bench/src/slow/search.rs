@@ -20,6 +20,11 @@ pub fn worst(family: &Family) -> (&Variant, Types) {
     (variant, *types)
 }
 
+/// The types with which the slow segment takes longest.
+pub fn longest(variant: &Variant, types: &[Types]) -> Types {
+    *greatest(types, |types| shortest(&variant.candidate(*types).slow))
+}
+
 fn greatest<T>(items: &[T], value: impl Fn(&T) -> f64) -> &T {
     let values: Vec<f64> = items.iter().map(value).collect();
     let order = |one: &usize, other: &usize| values[*one].total_cmp(&values[*other]);

@@ -6,7 +6,7 @@ use crate::measure::{median, outcome, rounds, time};
 use crate::programs::{LIBRARY, PROGRAMS, SECOND};
 use bench::answer::Answer;
 use bench::inputs::Input;
-use bench::slowest::{families, Candidate, Family, Size, Types};
+use bench::slowest::{Candidate, Family};
 use std::time::Duration;
 
 /// How long a family is measured, unless the fewest rounds take longer.
@@ -16,18 +16,17 @@ const ENOUGH: Duration = Duration::from_secs(1);
 pub struct Found {
     pub family: &'static str,
     pub variant: String,
-    pub types: Types,
     /// Of preparing it.
     pub seconds: f64,
 }
 
 /// Prints a line for each family.
-pub fn table() -> Vec<Found> {
+pub fn table(families: &[Family]) -> Vec<Found> {
     println!("The slowest segment of each family, by the same sites and types with direct targets");
     println!("(bare: and with no tables that these don't need)\n");
     println!("| Family | Worst | Records | Sites | by direct | by bare | ns a site or record |");
     println!("|---|---|---|---|---|---|---|");
-    families(Size::LARGEST).iter().map(line).collect()
+    families.iter().map(line).collect()
 }
 
 fn line(family: &Family) -> Found {
@@ -46,7 +45,6 @@ fn line(family: &Family) -> Found {
     Found {
         family: family.name,
         variant: variant.name.clone(),
-        types,
         seconds: slow,
     }
 }

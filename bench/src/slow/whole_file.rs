@@ -1,6 +1,7 @@
 //! All segments of a file prepared, where as many as there can be name the same
 //! stored bytes and records.
 
+use super::search::longest;
 use super::segments::Found;
 use crate::buffers::Buffers;
 use crate::library;
@@ -15,11 +16,14 @@ const SIZE: Size = Size {
     table: 65_000,
     ..Size::LARGEST
 };
+/// The family of direct targets.
+const DIRECT: &str = "many segments";
 /// The segments that are prepared, spread over the file, unless they take long.
 const PREPARED: usize = 100;
 const LONG: Duration = Duration::from_secs(20);
 
-/// Prints a line for direct targets and one for the slowest segment.
+/// Prints a line for the slowest segment, and one for direct targets if they are
+/// among those that were found.
 pub fn table(found: &[Found]) {
     println!(
         "\nAll {} segments of a file with the same bytes and records\n",
@@ -27,10 +31,10 @@ pub fn table(found: &[Found]) {
     );
     println!("| Segment | Image, bytes | Prepared | ms each | s for all |");
     println!("|---|---|---|---|---|");
-    let slowest = found
-        .iter()
-        .max_by(|one, other| one.seconds.total_cmp(&other.seconds));
-    let direct = found.iter().find(|found| found.family == "many segments");
+    let order = |one: &&Found, other: &&Found| one.seconds.total_cmp(&other.seconds);
+    let slowest = found.iter().max_by(order);
+    let direct = found.iter().find(|found| found.family == DIRECT);
+    let slowest = slowest.filter(|found| found.family != DIRECT);
     direct.into_iter().chain(slowest).for_each(line);
 }
 
@@ -47,15 +51,16 @@ fn line(found: &Found) {
     );
 }
 
+/// The same variant, with the types that take longest.
 fn input(found: &Found) -> Input {
     let families = families(SIZE);
-    let mut variants = families
-        .iter()
-        .filter(|family| family.name == found.family)
-        .flat_map(|family| &family.variants);
+    let family = families.iter().find(|family| family.name == found.family);
+    let family = family.expect("the families are the same");
+    let mut variants = family.variants.iter();
     let variant = variants.find(|variant| variant.name == found.variant);
     let variant = variant.expect("a smaller table has the same variants");
-    variant.in_every_segment(found.types, SIZE.segments)
+    let types = longest(variant, &family.types);
+    variant.in_every_segment(types, SIZE.segments)
 }
 
 /// How many segments were prepared, and the seconds that each took.

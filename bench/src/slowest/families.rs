@@ -23,7 +23,7 @@ pub fn families(size: Size) -> Vec<Family> {
         ),
         ("imports by name", by_name(size)),
         (
-            "OS fixups, by as many direct records",
+            "OS fixups, by direct records",
             vec![all_alike(size, Target::Os)],
         ),
         ("all kinds of targets", vec![mixed(size)]),
