@@ -12,7 +12,7 @@ const DRAWN: u64 = 2_000;
 
 /// Rounds, until the thread is stopped.
 pub fn work(calls: &[Box<dyn Call>], seeds: impl Iterator<Item = u64>, shared: &Shared) {
-    let mut rounds = (1..).zip(seeds);
+    let mut rounds = (0..).zip(seeds);
     // Only `shared` tells why it ended.
     let _ = rounds.try_for_each(|(round, seed)| one_round(calls, round, seed, shared));
 }
@@ -23,17 +23,15 @@ pub fn seeds(first: u64, thread: u64, threads: u64) -> impl Iterator<Item = u64>
     std::iter::successors(Some(first.wrapping_add(thread)), next)
 }
 
-/// The kinds of input in a round, which are counted from 1. Images that are the
+/// The kinds of input in a round, which are counted from 0. Images that are the
 /// same every time, so that only what is asked of them is new, come up rarely.
 pub fn kinds(round: u64) -> impl Iterator<Item = Kind> {
-    let every = |kind: &Kind| match kind {
-        Kind::Sound | Kind::Damaged | Kind::RandomBytes => 1,
-        Kind::Special => 16,
-        Kind::Systematic => 256,
+    let comes_up = move |kind: &Kind| match kind {
+        Kind::Sound | Kind::Damaged | Kind::RandomBytes => true,
+        Kind::Special => round % 16 == 15,
+        Kind::Systematic => round % 256 == 255,
     };
-    KINDS
-        .into_iter()
-        .filter(move |kind| round.is_multiple_of(every(kind)))
+    KINDS.into_iter().filter(comes_up)
 }
 
 fn one_round(calls: &[Box<dyn Call>], round: u64, seed: u64, shared: &Shared) -> ControlFlow<()> {
