@@ -6,7 +6,7 @@ pub use steps::head_at;
 pub use steps::kind_of;
 pub use steps::next;
 ghost use mathlib.Core.Path.{_≡_};
-ghost use Prim.Native.Nat.{_≤_};
+ghost use Prim.Native.Nat.{_*_, _≤_};
 ghost use Rattle.bundle.specs.Bundle.{kindOf, widthOf, entryOf};
 
 // What a bundle's segment byte says: its ordinals have no entries, movable entries, or entries in a segment of this number.
@@ -62,13 +62,14 @@ pub fn width(kind: Kind) -> usize
     }
 }
 
-// The same from the segment byte, by arithmetic alone: in a table of mixed bundles a branch is guessed wrong each time.
-pub fn width_of(segment: u8) -> usize
-    ensures { λ r. ⌜ (r ≡ widthOf (kindOf segment)) × (r ≤ 6) ⌝ }
+// The bytes of a bundle's entries, by arithmetic alone: in a table of mixed bundles a branch is guessed wrong each time.
+pub fn size_of(head: Head) -> usize
+    ensures { λ r. ⌜ (r ≡ widthOf (kindOf (head .segment)) * head .count) × (r ≤ 6 * head .count) ⌝ }
 {
-    let movable = segment / 255;
-    let null = (255 - segment) / 255;
-    (3 * (1 + movable - null)) as usize
+    let fixed = 3 * head.count as usize;
+    let movable = (head.segment / 255) as usize;
+    let null = ((255 - head.segment) / 255) as usize;
+    fixed + fixed * movable - fixed * null
 }
 
 // What the entry says that starts at the first byte of `e`.

@@ -37,6 +37,6 @@ pub fn find(table: &[u8], index: &[u32], number: u32) -> Answer
             return bundle::read_entry(kind, le::slice::from(table, place));
         }
         left -= count;
-        at = first + bundle::width_of(head.segment) * count as usize;
+        at = first + bundle::size_of(head);
     }
 }

@@ -38,7 +38,7 @@ pub fn fill(table: &[u8], index: &mut [u32])
         }
         let end = used + count;
         put(index, first(used), first(end), at as u32 * 65536 + used);
-        at = at + 2 + bundle::width_of(head.segment) * count as usize;
+        at = at + 2 + bundle::size_of(head);
         used = end;
     }
 }

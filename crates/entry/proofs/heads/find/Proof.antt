@@ -38,9 +38,6 @@ inside c =
 place-below : (c : tie.After-width Inv-loop μ-loop) → c .width .result * c .before .before .before .before .before .loop .left < 2 ^ 35
 place-below c = offset-below (c .width .result) (c .before .before .before .before .before .loop .left) (c .width .ensures .1) (omega arith)
 
-end-below : (c : tie.After-width-of Inv-loop μ-loop) → c .width-of .result * c .before .before .before .head-at .result .count < 2 ^ 35
-end-below c = offset-below (c .width-of .result) (c .before .before .before .head-at .result .count) (c .width-of .ensures .1) (omega arith)
-
 returns : tie.Need-returns Inv-loop μ-loop
 returns c =
     let zero : c .before .before .before .args .number ≡ 0 = c .if1 .taken in
@@ -116,18 +113,12 @@ returns-3 c =
     let near : a .number ≤ a .number - 1 - l .left + h .result .count = omega arith in
     λ segments bundles sound. entry ∙ rw (mark-covers (now (a .table)) segments bundles (l .at) (a .number - 1 - l .left) (l .inv .1 segments bundles sound) (h .result) (h .ensures) (a .number) (omega arith) near, left)
 
-width-of-requires : tie.Need-width-of-requires Inv-loop μ-loop
-width-of-requires c κs = search needs
-
-cast-at-2 : tie.Need-cast-at-2 Inv-loop μ-loop
-cast-at-2 c = search needs
-
-mul-at : tie.Need-mul-at Inv-loop μ-loop
-mul-at c = let below = end-below c in omega arith
+size-of-requires : tie.Need-size-of-requires Inv-loop μ-loop
+size-of-requires c κs = search needs
 
 add-at : tie.Need-add-at Inv-loop μ-loop
 add-at c =
-    let below = end-below c in
+    let below = c .size-of .ensures .1 in
     let i = inside (c .before .before) in
     omega arith
 
@@ -141,7 +132,7 @@ loop-again c =
     let h = c .before .before .before .head-at in
     let used : a .number - 1 - (l .left - h .result .count) ≡ a .number - 1 - l .left + h .result .count = omega arith in
     let low : l .left - h .result .count < a .number = omega arith in
-    (low, λ segments bundles sound. rw (c .width-of .ensures .0, used) (mark-goes-on (now (a .table)) segments bundles (l .at) (a .number - 1 - l .left) (l .inv .1 segments bundles sound) (h .result) (h .ensures) (omega arith)))
+    (low, λ segments bundles sound. rw (c .size-of .ensures .0, used) (mark-goes-on (now (a .table)) segments bundles (l .at) (a .number - 1 - l .left) (l .inv .1 segments bundles sound) (h .result) (h .ensures) (omega arith)))
 
 pub find-spec : {M : Type 1} → statement M
 find-spec =
@@ -167,9 +158,7 @@ find-spec =
     from-requires
     read-entry-requires
     returns-3
-    width-of-requires
-    cast-at-2
-    mul-at
+    size-of-requires
     add-at
     loop-less
     loop-again)

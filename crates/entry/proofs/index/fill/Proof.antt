@@ -1,13 +1,12 @@
 -- `entry::index::fill` meets its contract. The loop's invariant: the index is one, and the walk stands at a place of the table.
 -- Assumes nothing.
 use mathlib.Core.Path.{_≡_, _∙_, refl}
-use Prim.Native.Nat.{ℕ, _*_, _-_, _^_, _≤_, _<_}
+use Prim.Native.Nat.{_-_, _≤_}
 use native.Mathlib.Omega.{arith}
 use borrow.Author.Needs.{needs}
 use denote.Ref.{now}
 use lib.ListN.{length}
 use Rattle.entry.specs.Index.{Indexes}
-use Rattle.entry.proofs.Covers.{offset-below}
 use Rattle.entry.proofs.Marks.{mark-goes-on}
 use Rattle.entry.proofs.Indexed.{Marked, start-marked, put-indexes}
 use Rattle.entry.proofs.index.fill.Statement.{statement}
@@ -18,9 +17,6 @@ Inv-loop table index₀ at₀ used₀ index at used = (used ≤ 65535) × (lengt
 
 abbrev μ-loop : tie.MeasureT-loop
 μ-loop table index₀ at₀ used₀ index at used = 65536 - at
-
-end-below : (c : tie.After-width-of Inv-loop μ-loop) → c .width-of .result * c .before .before .before .before .before .before .before .before .before .head-at .result .count < 2 ^ 35
-end-below c = offset-below (c .width-of .result) (c .before .before .before .before .before .before .before .before .before .head-at .result .count) (c .width-of .ensures .1) (omega arith)
 
 loop-holds : tie.Need-loop-holds Inv-loop μ-loop
 loop-holds c =
@@ -70,17 +66,13 @@ put-requires c κs = search needs
 add-at : tie.Need-add-at Inv-loop μ-loop
 add-at c = omega arith
 
-width-of-requires : tie.Need-width-of-requires Inv-loop μ-loop
-width-of-requires c κs = search needs
-
-cast-at : tie.Need-cast-at Inv-loop μ-loop
-cast-at c = search needs
-
-mul-at : tie.Need-mul-at Inv-loop μ-loop
-mul-at c = let below = end-below c in omega arith
+size-of-requires : tie.Need-size-of-requires Inv-loop μ-loop
+size-of-requires c κs = search needs
 
 add-at-2 : tie.Need-add-at-2 Inv-loop μ-loop
-add-at-2 c = let below = end-below c in omega arith
+add-at-2 c =
+    let below = c .size-of .ensures .1 in
+    omega arith
 
 loop-less : tie.Need-loop-less Inv-loop μ-loop
 loop-less c = omega arith
@@ -92,7 +84,7 @@ loop-again c =
     let put = c .before .before .before .put in
     let h = c .before .before .before .before .before .before .before .before .before .head-at in
     let count : h .result .count ≡ 0 → ⊥ = c .before .before .before .before .before .before .before .before .if1 .left in
-    (omega arith, put .kept .0 ∙ l .inv .1, put-indexes (now (a .table)) (l .index) (put .last .0) (l .at) (l .used) (c .before .before .before .before .before .first .result) (omega arith) (c .before .before .before .before .before .first .ensures .0) (l .inv .3) (l .inv .2) (put .ensures), λ segments all sound. rw (c .width-of .ensures .0) (mark-goes-on (now (a .table)) segments all (l .at) (l .used) (l .inv .3 segments all sound) (h .result) (h .ensures) (omega arith)))
+    (omega arith, put .kept .0 ∙ l .inv .1, put-indexes (now (a .table)) (l .index) (put .last .0) (l .at) (l .used) (c .before .before .before .before .before .first .result) (omega arith) (c .before .before .before .before .before .first .ensures .0) (l .inv .3) (l .inv .2) (put .ensures), λ segments all sound. rw (c .size-of .ensures .0) (mark-goes-on (now (a .table)) segments all (l .at) (l .used) (l .inv .3 segments all sound) (h .result) (h .ensures) (omega arith)))
 
 same-length-3 : tie.Need-same-length-3 Inv-loop μ-loop
 same-length-3 c = c .before .loop .inv .1
@@ -121,9 +113,7 @@ fill-spec =
     add-put
     put-requires
     add-at
-    width-of-requires
-    cast-at
-    mul-at
+    size-of-requires
     add-at-2
     loop-less
     loop-again
