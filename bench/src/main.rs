@@ -4,7 +4,7 @@
 //! some, and with `queries` for the images on which queries do. `bench/run` proves and builds the library,
 //! builds this program and runs it.
 
-#![deny(unsafe_code)]
+#![forbid(unsafe_code)]
 
 mod buffers;
 mod library;

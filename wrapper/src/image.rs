@@ -125,9 +125,15 @@ impl<'a> Image<'a> {
     ///
     /// Refusals 1 to 7 and 12 to 14 give one line, `refused 12` for example.
     pub fn list(self) -> Vec<u8> {
-        let mut text = vec![0; library::list(self.bytes, &mut [])];
-        library::list(self.bytes, &mut text);
+        let mut text = vec![0; self.list_into(&mut [])];
+        self.list_into(&mut text);
         text
+    }
+
+    /// The same at the front of `text`, as much of it as fits, and gives the
+    /// length of the whole. The rest of `text` stays as it came.
+    pub fn list_into(self, text: &mut [u8]) -> usize {
+        library::list(self.bytes, text)
     }
 
     fn name_of(self, found: NameResult) -> Result<Name<'a>, Refusal> {

@@ -97,6 +97,19 @@ fn listing() {
     assert_eq!(Image::new(&image).list(), expected.as_bytes());
 }
 
+#[test]
+fn listing_in_lent_memory() {
+    let image = Module::sample().image();
+    let image = Image::new(&image);
+    let mut short = *b"**********";
+    assert_eq!(image.list_into(&mut short), 39);
+    assert_eq!(&short, b"ordinals 4");
+    let mut long = [b'*'; 41];
+    assert_eq!(image.list_into(&mut long), 39);
+    assert_eq!(&long[..39], image.list());
+    assert_eq!(&long[39..], b"**");
+}
+
 /// The listing program stops at 65,536 bytes; this does not.
 #[test]
 fn listing_of_a_long_image() {
