@@ -7,6 +7,8 @@ use segment::Segment;
 ghost use mathlib.Core.Path.{_≡_};
 ghost use Prim.Native.Nat.{_≤_};
 ghost use lib.ListN.{length, take, drop};
+ghost use Rattle.entry.specs.Ordinal.{tableBytes};
+ghost use Rattle.entry.specs.Index.{Indexes};
 ghost use Rattle.loader.specs.Room.{Room, Leaves, outcomeIn};
 
 // Segments up to this length take a small array: clearing a large one would cost more than all other work on them.
@@ -53,7 +55,22 @@ fn small(
 {
     let mut bytes = [0u8; 4096];
     let size = s.stored as usize;
-    in_array(
+    if records::few(h, s) {
+        let start = [0u32; 1];
+        return in_array(
+            image,
+            h,
+            s,
+            &start,
+            selectors,
+            answers,
+            stored,
+            &mut bytes[..size],
+            output,
+            marks,
+        );
+    }
+    indexed(
         image,
         h,
         s,
@@ -81,7 +98,22 @@ fn large(
 {
     let mut bytes = [0u8; 65536];
     let size = s.stored as usize;
-    in_array(
+    if records::few(h, s) {
+        let start = [0u32; 1];
+        return in_array(
+            image,
+            h,
+            s,
+            &start,
+            selectors,
+            answers,
+            stored,
+            &mut bytes[..size],
+            output,
+            marks,
+        );
+    }
+    indexed(
         image,
         h,
         s,
@@ -94,9 +126,8 @@ fn large(
     )
 }
 
-// Applies the records in an array of as many bytes as are stored. It goes to the output once all records are known good; otherwise the
-// marks are cleared again.
-fn in_array(
+// The same with an index of the entry table, so that no ordinal is far however many bundles there are.
+fn indexed(
     image: &[u8],
     h: Header,
     s: Segment,
@@ -110,12 +141,46 @@ fn in_array(
     requires { ⌜ Room (now image) h s (now answers) (now output) (now marks) × (now stored ≡ take (s .stored) (drop (s .start) (now image))) × (length (now bytes) ≡ s .stored) ⌝ }
     ensures { λ r. ⌜ Leaves (outcomeIn (now (image .entry)) h s (now (selectors .entry)) (now (answers .entry)) (now (marks .entry))) r (now (output .entry)) (now (output .exit)) (now (marks .entry)) (now (marks .exit)) ⌝ }
 {
+    let mut ordinals = [0u32; 16384];
+    entry::fill(entry::table(image, h), &mut ordinals);
+    in_array(
+        image,
+        h,
+        s,
+        &ordinals,
+        selectors,
+        answers,
+        stored,
+        bytes,
+        output,
+        marks,
+    )
+}
+
+// Applies the records in an array of as many bytes as are stored. It goes to the output once all records are known good; otherwise the
+// marks are cleared again.
+fn in_array(
+    image: &[u8],
+    h: Header,
+    s: Segment,
+    ordinals: &[u32],
+    selectors: &[u16],
+    answers: &[u32],
+    stored: &[u8],
+    bytes: &mut [u8],
+    output: &mut [u8],
+    marks: &mut [u8],
+) -> Answer
+    requires { ⌜ Room (now image) h s (now answers) (now output) (now marks) × (now stored ≡ take (s .stored) (drop (s .start) (now image))) × (length (now bytes) ≡ s .stored) × Indexes (tableBytes (now image) h) (now ordinals) ⌝ }
+    ensures { λ r. ⌜ Leaves (outcomeIn (now (image .entry)) h s (now (selectors .entry)) (now (answers .entry)) (now (marks .entry))) r (now (output .entry)) (now (output .exit)) (now (marks .entry)) (now (marks .exit)) ⌝ }
+{
     le::slice::copy(stored, bytes);
     let size = stored.len();
     let answer = records::all(
         image,
         h,
         s,
+        ordinals,
         selectors,
         answers,
         stored,

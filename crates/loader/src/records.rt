@@ -3,7 +3,8 @@ use header::Header;
 use prepare::Answer;
 use segment::Segment;
 ghost use mathlib.Core.Path.{_≡_};
-ghost use Prim.Native.Nat.{_≤_};
+ghost use Prim.Native.Nat.{_*_, _≤_};
+ghost use lib.Dec.{leb};
 ghost use lib.ListN.{length};
 ghost use Rattle.entry.specs.Ordinal.{tableBytes};
 ghost use Rattle.entry.specs.Index.{Indexes};
@@ -14,69 +15,16 @@ ghost use Rattle.loader.specs.Run.{ran, runFrom, actionsIn};
 // Up to this many records, times bytes of the entry table, looking ordinals up from the table's start costs no more than an index.
 const LITTLE: usize = 1024;
 
-// Goes over all records of a segment, once the entry table is checked: each is resolved, and its sites are claimed in the marks and
-// written into `bytes`. Both have a byte for each stored one.
+// Whether there is so little to look up that an index would cost more than it saves.
+pub fn few(h: Header, s: Segment) -> bool
+    ensures { λ r. ⌜ r ≡ leb (s .records * h .entries .count) 1024 ⌝ }
+{
+    s.records as usize * h.entries.count as usize <= LITTLE
+}
+
+// Goes over all records of a segment, once the entry table is checked and there is an index of it, `ordinals`: each record is resolved, and
+// its sites are claimed in the marks and written into `bytes`. Both have a byte for each stored one.
 pub fn all(
-    image: &[u8],
-    h: Header,
-    s: Segment,
-    selectors: &[u16],
-    answers: &[u32],
-    stored: &[u8],
-    marks: &mut [u8],
-    bytes: &mut [u8],
-) -> Answer
-    requires { ⌜ SameSize (now stored) (now marks) (now bytes) × (s .records ≤ length (now answers)) × Checked (now image) h ⌝ }
-    ensures { λ r. ⌜ ran r (now (marks .exit)) (now (bytes .exit)) ≡ runFrom (now (stored .entry)) (actionsIn (now (image .entry)) h s (now (selectors .entry)) (now (answers .entry))) 1 0 (now (marks .entry)) (now (bytes .entry)) ⌝ }
-{
-    if s.records as usize * h.entries.count as usize <= LITTLE {
-        let start = [0u32; 1];
-        return each(
-            image,
-            h,
-            s,
-            &start,
-            selectors,
-            answers,
-            stored,
-            marks,
-            bytes,
-        );
-    }
-    indexed(image, h, s, selectors, answers, stored, marks, bytes)
-}
-
-// The same with an index, so that no ordinal is far however many bundles there are.
-fn indexed(
-    image: &[u8],
-    h: Header,
-    s: Segment,
-    selectors: &[u16],
-    answers: &[u32],
-    stored: &[u8],
-    marks: &mut [u8],
-    bytes: &mut [u8],
-) -> Answer
-    requires { ⌜ SameSize (now stored) (now marks) (now bytes) × (s .records ≤ length (now answers)) × Checked (now image) h ⌝ }
-    ensures { λ r. ⌜ ran r (now (marks .exit)) (now (bytes .exit)) ≡ runFrom (now (stored .entry)) (actionsIn (now (image .entry)) h s (now (selectors .entry)) (now (answers .entry))) 1 0 (now (marks .entry)) (now (bytes .entry)) ⌝ }
-{
-    let mut ordinals = [0u32; 16384];
-    entry::fill(entry::table(image, h), &mut ordinals);
-    each(
-        image,
-        h,
-        s,
-        &ordinals,
-        selectors,
-        answers,
-        stored,
-        marks,
-        bytes,
-    )
-}
-
-// The same where `ordinals` is an index of the entry table.
-fn each(
     image: &[u8],
     h: Header,
     s: Segment,

@@ -20,25 +20,25 @@ copy-requires c κs = search needs
 
 slice-relend-prefix-all : tie.Need-slice-relend-prefix-all
 slice-relend-prefix-all c =
-    let start = c .before .before .before .before .before .before .before .before .before .before .before in
+    let start = c .before .before .before .before .before .before .before .before .before .before .before .before in
     let a = start .args in
     let size = ap length (start .pre .1) ∙ stored-size (now (a .image)) (a .h) (a .s) (now (a .selectors)) (now (a .answers)) (now (a .output)) (now (a .marks)) (start .pre .0) in
     omega (arith, size, start .pre .0 .marks-fit)
 
 slice-aggregate-all : tie.Need-slice-aggregate-all
 slice-aggregate-all c =
-    let start = c .before .before .before .before .before .before .before .before .before .before .before .before in
+    let start = c .before .before .before .before .before .before .before .before .before .before .before .before .before in
     let a = start .args in
     let size = ap length (start .pre .1) ∙ stored-size (now (a .image)) (a .h) (a .s) (now (a .selectors)) (now (a .answers)) (now (a .output)) (now (a .marks)) (start .pre .0) in
     sym (length-take-le (length (now (a .stored))) (now (a .marks)) (omega (arith, size, start .pre .0 .marks-fit)))
 
 all-requires : tie.Need-all-requires
 all-requires c κs =
-    let start = c .before .before .before .before .before .before .before .before .before .before .before .before .before in
+    let start = c .before .before .before .before .before .before .before .before .before .before .before .before .before .before in
     let a = start .args in
     let size = ap length (start .pre .1) ∙ stored-size (now (a .image)) (a .h) (a .s) (now (a .selectors)) (now (a .answers)) (now (a .output)) (now (a .marks)) (start .pre .0) in
     let marks = length-take-le (length (now (a .stored))) (now (a .marks)) (omega (arith, size, start .pre .0 .marks-fit)) in
-    ((marks, c .before .before .before .before .copy .kept .1 .0 ∙ start .pre .2 ∙ sym size), start .pre .0 .answers-fit, start .pre .0 .entries)
+    ((marks, c .before .before .before .before .copy .kept .1 .0 ∙ start .pre .2 ∙ sym size), start .pre .0 .answers-fit, start .pre .0 .entries, start .pre .3)
 
 enum-known-answer : tie.Need-enum-known-answer
 enum-known-answer c = search needs
@@ -63,13 +63,13 @@ same-length-2 c = search needs
 
 returns : tie.Need-returns
 returns c =
-    let start = c .before .before .before .before .before .before .before .before .before .before .before .before .before .before .before .before .before .before .before .before .before .before .before .before .before in
+    let start = c .before .before .before .before .before .before .before .before .before .before .before .before .before .before .before .before .before .before .before .before .before .before .before .before .before .before in
     let a = start .args in
     let size = ap length (start .pre .1) ∙ stored-size (now (a .image)) (a .h) (a .s) (now (a .selectors)) (now (a .answers)) (now (a .output)) (now (a .marks)) (start .pre .0) in
     let whole = c .before .before .before .before .before .before .before .before .before .before .before .before .before .before .before .before .copy .ensures ∙ copied-whole (now (a .stored)) (now (a .bytes)) (start .pre .2 ∙ sym size) in
     let gave = rw (c .before .before .before .before .before .answer .given .1, whole, start .pre .1) at (c .before .before .before .before .before .before .before .before .before .before .before .all .ensures) in
     let few : length (now (a .stored)) ≤ length (now (a .marks)) = omega (arith, size, start .pre .0 .marks-fit) in
-    let same : length (c .before .before .before .before .before .before .before .before .before .before .before .all .last .1 .1 .1 .1 .1 .1 .0 ++ drop (length (now (a .stored))) (now (a .marks))) ≡ length (now (a .marks)) = omega (arith, length-append (c .before .before .before .before .before .before .before .before .before .before .before .all .last .1 .1 .1 .1 .1 .1 .0) (drop (length (now (a .stored))) (now (a .marks))), length-drop (length (now (a .stored))) (now (a .marks)), c .before .before .before .before .before .before .before .before .before .before .before .all .kept .1 .1 .1 .1 .1 .1 .0, length-take-le (length (now (a .stored))) (now (a .marks)) few, few) in
+    let same : length (c .before .before .before .before .before .before .before .before .before .before .before .all .last .1 .1 .1 .1 .1 .1 .1 .0 ++ drop (length (now (a .stored))) (now (a .marks))) ≡ length (now (a .marks)) = omega (arith, length-append (c .before .before .before .before .before .before .before .before .before .before .before .all .last .1 .1 .1 .1 .1 .1 .1 .0) (drop (length (now (a .stored))) (now (a .marks))), length-drop (length (now (a .stored))) (now (a .marks)), c .before .before .before .before .before .before .before .before .before .before .before .all .kept .1 .1 .1 .1 .1 .1 .1 .0, length-take-le (length (now (a .stored))) (now (a .marks)) few, few) in
     let left = refused-left (now (a .image)) (a .h) (a .s) (now (a .selectors)) (now (a .answers)) (now (a .output)) (now (a .marks)) (start .pre .0) _ _ _ _ gave in
     let cleared : c .before .before .clear .last .0 ≡ zeros (length (now (a .marks))) = c .before .before .clear .ensures ∙ ap zeros same in
     rw cleared left
@@ -85,7 +85,7 @@ same-length-5 c = search needs
 
 returns-2 : tie.Need-returns-2
 returns-2 c =
-    let start = c .before .before .before .before .before .before .before .before .before .before .before .before .before .before .before .before .before .before .before .before .before .before .before .before .before .before .before in
+    let start = c .before .before .before .before .before .before .before .before .before .before .before .before .before .before .before .before .before .before .before .before .before .before .before .before .before .before .before .before in
     let a = start .args in
     let size = ap length (start .pre .1) ∙ stored-size (now (a .image)) (a .h) (a .s) (now (a .selectors)) (now (a .answers)) (now (a .output)) (now (a .marks)) (start .pre .0) in
     let whole = c .before .before .before .before .before .before .before .before .before .before .before .before .before .before .before .before .before .before .copy .ensures ∙ copied-whole (now (a .stored)) (now (a .bytes)) (start .pre .2 ∙ sym size) in
