@@ -134,11 +134,11 @@ fn indexed(
     selectors: &[u16],
     answers: &[u32],
     stored: &[u8],
-    bytes: &mut [u8],
+    array: &mut [u8],
     output: &mut [u8],
     marks: &mut [u8],
 ) -> Answer
-    requires { ⌜ Room (now image) h s (now answers) (now output) (now marks) × (now stored ≡ take (s .stored) (drop (s .start) (now image))) × (length (now bytes) ≡ s .stored) ⌝ }
+    requires { ⌜ Room (now image) h s (now answers) (now output) (now marks) × (now stored ≡ take (s .stored) (drop (s .start) (now image))) × (length (now array) ≡ s .stored) ⌝ }
     ensures { λ r. ⌜ Leaves (outcomeIn (now (image .entry)) h s (now (selectors .entry)) (now (answers .entry)) (now (marks .entry))) r (now (output .entry)) (now (output .exit)) (now (marks .entry)) (now (marks .exit)) ⌝ }
 {
     let mut ordinals = [0u32; 16384];
@@ -151,7 +151,7 @@ fn indexed(
         selectors,
         answers,
         stored,
-        bytes,
+        array,
         output,
         marks,
     )
