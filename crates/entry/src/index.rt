@@ -43,7 +43,7 @@ pub fn fill(table: &[u8], index: &mut [u32])
     }
 }
 
-// The first element that so many ordinals come before.
+// The first element with at least so many ordinals before it.
 fn first(used: u32) -> usize
     requires { ⌜ used ≤ 65535 ⌝ }
     ensures { λ r. ⌜ (used ≤ 4 * r) × (r ≤ 16384) ⌝ }
