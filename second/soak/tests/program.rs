@@ -7,10 +7,11 @@ fn soak() -> Command {
     Command::new(env!("CARGO_BIN_EXE_soak"))
 }
 
-/// What the program says when it gets this signal once it runs.
+/// What the program says when it gets this signal once it runs. If it didn't
+/// heed it, it would show its progress before it ends by itself.
 fn stopped_by(signal: &str) -> (Option<i32>, String) {
     let mut program = soak()
-        .args(["--threads", "2", "--seed", "9"])
+        .args(["--threads", "2", "--seed", "9", "--minutes", "1"])
         .stdout(Stdio::piped())
         .spawn()
         .expect("the program starts");

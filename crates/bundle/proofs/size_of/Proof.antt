@@ -1,13 +1,12 @@
 -- `bundle::size_of` meets its contract: of the two quotients, one is 1 for the byte 255 alone, and the other for 0 alone.
 -- Assumes nothing.
 use mathlib.Core.Path.{_≡_, refl}
-use mathlib.Core.Bool.{Bool, true, false, cond}
+use mathlib.Core.Bool.{Bool, true, false}
 use Prim.Native.Nat.{ℕ, _+_, _*_, _-_, _/_, _≤_}
 use native.Mathlib.Omega.{arith}
 use borrow.Author.Tests.{eqb-true, eqb-false}
 use borrow.Author.Needs.{needs}
 use lib.Dec.{eqb}
-use Rattle.bundle.specs.declared.Kind.the-variants.{Null, Movable, Fixed}
 use Rattle.bundle.specs.Bundle.{kindOf, widthOf}
 use Rattle.bundle.proofs.size_of.Statement.{statement}
 use Rattle.bundle.proofs.size_of.Tie as tie

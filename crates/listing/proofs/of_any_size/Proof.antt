@@ -1,6 +1,7 @@
 -- `listing::of_any_size` meets its contract: each way is a case of the definition, and what is written from the front on is a copy.
 -- Assumes nothing.
-use mathlib.Core.Path.{_∙_, sym}
+use mathlib.Core.Path.{_≡_, _∙_, sym}
+use Rattle.refusal.specs.Number.{numberOf}
 use Rattle.header.specs.Header.{onHeader}
 use Rattle.listing.specs.Listing.{linesOf}
 use Rattle.listing.proofs.Writing.{from-front}
@@ -34,7 +35,10 @@ same-length c = search needs
 
 returns : tie.Need-returns
 unfolding linesOf onHeader
-returns c = rw (sym (c .before .before .before .before .before .before .before .before .before .read .ensures) ∙ c .before .before .before .before .before .before .before .headers .given .1, sym (c .before .before .before .number .ensures)) (from-front (c .before .before .numbered .ensures .0))
+returns c =
+    let header = sym (c .before .before .before .before .before .before .before .before .before .read .ensures) ∙ c .before .before .before .before .before .before .before .headers .given .1 in
+    let number : c .before .before .before .number .result ≡ numberOf (c .before .before .before .before .before .before .before .headers .given .0 .0) = c .before .before .before .number .ensures in
+    rw (header, sym number) (from-front (c .before .before .numbered .ensures .0))
 
 same-length-2 : tie.Need-same-length-2
 same-length-2 c = search needs
