@@ -38,7 +38,7 @@ $(BUILD)/libne.a: FORCE | $(BUILD)
 	@$(call update,$(ARCHIVE))
 
 $(BUILD)/ne: $(BUILD)/libne.a FORCE
-	. .ci/rust && cd .. && cargo build --locked --offline --release --package ne-cli --target-dir $(abspath $(BUILD))/cargo
+	. .ci/rust && cargo_in . build --package ne-cli --target-dir $(abspath $(BUILD))/cargo
 	@$(call update,$(BUILD)/cargo/release/ne)
 
 # What is exported is what the header declares, and the library has to have it.

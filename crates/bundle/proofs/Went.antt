@@ -16,12 +16,14 @@ use lib.ListN.{length, List·getD-eq-default}
 use Rattle.checks.proofs.Impossible.{never}
 use Rattle.le.specs.Number.{byteAt}
 use Rattle.refusal.specs.declared.Refusal.the-variants.{EntryTableEnds}
-use Rattle.checks.specs.Checks.{decide, Passed}
+use Rattle.checks.specs.Checks.{decide}
+use Rattle.checks.specs.Internal.{Passed}
 use Rattle.checks.proofs.Checks.{passed, answered}
 use Rattle.bundle.specs.declared.Bundle.{Bundle}
 use Rattle.bundle.specs.declared.Step.{Step}
 use Rattle.bundle.specs.declared.Step.the-variants.{Next, End, Refused}
-use Rattle.bundle.specs.Bundle.{kindOf, widthOf, headOf, stepOf, bundleAt, bundleChecks, unsoundFrom}
+use Rattle.bundle.specs.Bundle.{kindOf, widthOf, stepOf, bundleAt, bundleChecks, unsoundFrom}
+use Rattle.bundle.specs.Internal.{headOf}
 
 is-refusal : Step → Bool
 is-refusal (Next b) = false

@@ -12,7 +12,6 @@ use Rattle.header.specs.Header.{lacks}
 use Rattle.bundle.specs.declared.Kind.{Kind}
 use Rattle.bundle.specs.declared.Kind.the-variants.{Null, Movable, Fixed}
 use Rattle.bundle.specs.declared.Bundle.{Bundle}
-use Rattle.bundle.specs.declared.Head.{Head}
 use Rattle.bundle.specs.declared.Step as step
 use Rattle.bundle.specs.declared.Step.the-variants as steps
 use Rattle.bundle.specs.declared.Answer.{Answer}
@@ -45,10 +44,6 @@ entryUnsound segments (Fixed segment) e = lacks segments segment
 unfoldable pub unsoundFrom : ℕ → List ℕ → ℕ → Kind → ℕ → Bool
 unsoundFrom zero table segments kind at = false
 unsoundFrom (suc count) table segments kind at = entryUnsound segments kind (drop at table) || unsoundFrom count table segments kind (at + widthOf kind)
-
--- "bundles of a count byte and a segment byte": these two at a place of the table.
-unfoldable pub headOf : List ℕ → ℕ → Head
-headOf table at = record { count = byteAt table at; segment = byteAt table (at + 1) }
 
 -- The bundle at a place of the table, where `used` ordinals come before it.
 unfoldable pub bundleAt : List ℕ → ℕ → ℕ → Bundle

@@ -1,2 +1,3 @@
 pub mod Bundle
 pub mod Values
+pub mod Internal

@@ -8,7 +8,8 @@ use refusal::Refusal;
 ghost use mathlib.Core.Path.{_≡_};
 ghost use Prim.Native.Nat.{_+_, _*_, _≤_};
 ghost use lib.ListN.{length};
-ghost use Rattle.bundle.specs.Bundle.{widthOf, kindOf, headOf, entryUnsound, unsoundFrom, stepOf};
+ghost use Rattle.bundle.specs.Bundle.{widthOf, kindOf, entryUnsound, unsoundFrom, stepOf};
+ghost use Rattle.bundle.specs.Internal.{headOf};
 
 // What a segment byte says.
 pub fn kind_of(segment: u8) -> Kind

@@ -10,7 +10,8 @@ use mathlib.Core.Path.{_≡_, refl, sym, _∙_}
 use mathlib.Core.Bool.{Bool, true, false}
 use mathlib.Core.List.{List, [], _∷_}
 use Rattle.checks.proofs.Impossible.{never}
-use Rattle.checks.specs.Checks.{Check, _⇒_, decide, Passed, Reasons, First}
+use Rattle.checks.specs.Checks.{Check, _⇒_, decide}
+use Rattle.checks.specs.Internal.{Passed, Reasons, First}
 
 pub decided : {W A : Type 0} (refuse : W → A) (checks : List (Check W)) (a : A) → Passed checks → decide refuse checks a ≡ a
 decided refuse [] a p = refl

@@ -6,7 +6,7 @@ use mathlib.Core.List.{List}
 use Prim.Native.Nat.{ℕ, _+_}
 use lib.Dec.{ltb}
 use lib.ListN.{length}
-use Rattle.claim.specs.Claim.{taken, claimOf}
+use Rattle.claim.specs.Internal.{taken, claimOf}
 use Rattle.claim.specs.declared.Answer.{Answer}
 use Rattle.claim.specs.declared.Answer.the-variants.{Claimed, Outside, Taken}
 

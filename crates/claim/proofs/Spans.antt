@@ -13,7 +13,7 @@ use borrow.Author.Tests.{eq-eqb, ne-eqb, eqb-true, eqb-false}
 use lib.Dec.{eqb}
 use lib.ListN.{set}
 use Rattle.le.specs.Number.{byteAt, number}
-use Rattle.claim.specs.Claim.{taken, claimed}
+use Rattle.claim.specs.Internal.{taken, claimed}
 
 module _ (marks : List ℕ) (at end : ℕ) (h : at < end) where
   one-more : end - at ≡ suc (end - suc at)

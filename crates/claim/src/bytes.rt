@@ -2,7 +2,7 @@
 ghost use mathlib.Core.Path.{_≡_};
 ghost use Prim.Native.Nat.{_-_, _≤_};
 ghost use lib.ListN.{length};
-ghost use Rattle.claim.specs.Claim.{taken, claimed};
+ghost use Rattle.claim.specs.Internal.{taken, claimed};
 
 // Whether a byte from `start` up to `end` is marked.
 pub fn taken(marks: &[u8], start: usize, end: usize) -> bool

@@ -4,7 +4,7 @@ use crate::bytes;
 ghost use mathlib.Core.Path.{_≡_};
 ghost use Prim.Native.Nat.{_+_, _-_, _≤_};
 ghost use lib.ListN.{length};
-ghost use Rattle.claim.specs.Claim.{insideOf, marksAfter};
+ghost use Rattle.claim.specs.Internal.{insideOf, marksAfter};
 
 // A span of 2 bytes.
 pub fn word(marks: &mut [u8], at: usize) -> Answer

@@ -3,7 +3,7 @@ mod bytes;
 mod inside;
 
 ghost use mathlib.Core.Path.{_≡_};
-ghost use Rattle.claim.specs.Claim.{claimOf, marksAfter};
+ghost use Rattle.claim.specs.Internal.{claimOf, marksAfter};
 
 // Whether a span could be claimed.
 pub enum Answer {

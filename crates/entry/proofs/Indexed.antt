@@ -17,7 +17,7 @@ use Rattle.le.specs.Slice.{zeros}
 use Rattle.bundle.specs.declared.Bundle.{Bundle}
 use Rattle.tables.specs.Table.{Sound}
 use Rattle.entry.specs.Table.{tableOf}
-use Rattle.entry.specs.Index.{placeOf, usedOf, Mark, Indexes}
+use Rattle.entry.specs.Internal.{placeOf, usedOf, Mark, Indexes}
 use Rattle.entry.proofs.Marks.{mark-start}
 
 -- An element is as it was, or has the place, and stands at `start` or behind.

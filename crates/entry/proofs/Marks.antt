@@ -17,11 +17,12 @@ use Rattle.bundle.specs.declared.Bundle.{Bundle}
 use Rattle.bundle.specs.declared.Head.{Head}
 use Rattle.bundle.specs.declared.Step as step
 use Rattle.bundle.specs.declared.Step.the-variants as steps
-use Rattle.bundle.specs.Bundle.{kindOf, widthOf, headOf, stepOf, bundleAt}
+use Rattle.bundle.specs.Bundle.{kindOf, widthOf, stepOf, bundleAt}
+use Rattle.bundle.specs.Internal.{headOf}
 use Rattle.bundle.proofs.Went.{Went, went, head-next, head-end}
 use Rattle.tables.specs.Table.{Sound, Unsound, after}
 use Rattle.entry.specs.Table.{EntryTable, tableAt, tableOf, covers, slotOf, noSlot, slotIn}
-use Rattle.entry.specs.Index.{Mark}
+use Rattle.entry.specs.Internal.{Mark}
 use Rattle.entry.proofs.Turns.{unrolled, whole}
 
 pub none-is-0 : (bundles : List Bundle) → slotIn bundles 0 ≡ noSlot

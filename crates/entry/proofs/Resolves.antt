@@ -12,7 +12,7 @@ use lib.ListN.{drop}
 use Rattle.checks.proofs.Impossible.{never}
 use Rattle.refusal.specs.declared.Refusal.{Refusal}
 use Rattle.refusal.specs.declared.Refusal.the-variants.{NoSuchOrdinal}
-use Rattle.header.specs.Header.{headerOf, onHeader}
+use Rattle.header.specs.Header.{headerOf}
 use Rattle.header.specs.declared.Header.{Header}
 use Rattle.header.specs.declared.Answer.the-variants as header-answer
 use Rattle.bundle.specs.declared.Kind.{Kind}
@@ -73,11 +73,11 @@ slot-cases number (b ∷ bs) = go (covers b number) refl (slot-cases number bs)
 
 module _ (image : List ℕ) (h : Header) (number : ℕ) (good : headerOf image ≡ header-answer.Accepted h) where
   answer-is : (bs : List Bundle) → tableOf (tableBytes image h) (h .segments .count) ≡ Sound bs → ordinalOf image number ≡ entryOf (slotIn bs number .kind) (drop (slotIn bs number .at) (tableBytes image h))
-  unfolding ordinalOf onHeader ordinalIn
+  unfolding ordinalOf ordinalIn
   answer-is bs sound = rw (good, sound)
 
   refused-is : (why : Refusal) → tableOf (tableBytes image h) (h .segments .count) ≡ Unsound why → ordinalOf image number ≡ answers.Refused why
-  unfolding ordinalOf onHeader ordinalIn
+  unfolding ordinalOf ordinalIn
   refused-is why unsound = rw (good, unsound)
 
   -- The answer to an ordinal that a bundle covers is its entry in that bundle.

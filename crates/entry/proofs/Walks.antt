@@ -11,7 +11,8 @@ use Rattle.entry.specs.declared.Walked.the-variants as walked
 use Rattle.bundle.specs.declared.Answer.the-variants.{Refused}
 use Rattle.bundle.specs.Bundle.{entryOf}
 use Rattle.tables.specs.Table.{Sound, Unsound}
-use Rattle.entry.specs.Table.{EntryTable, walkOf, slotIn, ordinalsIn}
+use Rattle.entry.specs.Table.{EntryTable, slotIn, ordinalsIn}
+use Rattle.entry.specs.Internal.{walkOf}
 use Rattle.entry.specs.Ordinal.{inTable}
 
 pub sound-answer : (table : List ℕ) (t : EntryTable) (number : ℕ) (f : Found) → walkOf t number ≡ walked.Sound f → inTable table t number ≡ entryOf (f .slot .kind) (drop (f .slot .at) table)

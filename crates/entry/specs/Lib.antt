@@ -1,5 +1,5 @@
 pub mod Table
 pub mod Ordinal
 pub mod Covered
-pub mod Index
 pub mod Examples
+pub mod Internal

@@ -13,8 +13,6 @@ use Rattle.bundle.specs.declared.Bundle.{Bundle}
 use Rattle.entry.specs.declared.Slot.{Slot}
 use Rattle.bundle.specs.declared.Step as step
 use Rattle.bundle.specs.declared.Step.the-variants as steps
-use Rattle.entry.specs.declared.Walked as walk
-use Rattle.entry.specs.declared.Walked.the-variants as walks
 use Rattle.bundle.specs.Bundle.{widthOf, stepOf}
 
 -- The place behind a bundle.
@@ -63,8 +61,3 @@ slotIn (b ∷ bs) number = cond (covers b number) (slotOf b number) (slotIn bs n
 unfoldable pub ordinalsIn : List Bundle → ℕ
 ordinalsIn [] = 0
 ordinalsIn (b ∷ bs) = b .count + ordinalsIn bs
-
--- What a walk of the table finds.
-abbrev pub walkOf : EntryTable → ℕ → walk.Walked
-walkOf (Sound bs) number = walks.Sound (record { ordinals = ordinalsIn bs; slot = slotIn bs number })
-walkOf (Unsound why) number = walks.Unsound why

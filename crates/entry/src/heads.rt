@@ -9,7 +9,7 @@ ghost use Rattle.bundle.specs.declared.Bundle.{Bundle};
 ghost use Rattle.tables.specs.Table.{Sound};
 ghost use Rattle.entry.specs.Table.{tableOf};
 ghost use Rattle.entry.specs.Ordinal.{inTable};
-ghost use Rattle.entry.specs.Index.{Indexes};
+ghost use Rattle.entry.specs.Internal.{Indexes};
 
 // Goes from the nearest place of an index, head by head, to the bundle that covers the ordinal. What it answers of an unsound table
 // means nothing.

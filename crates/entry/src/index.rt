@@ -3,7 +3,7 @@ ghost use mathlib.Core.Path.{_≡_};
 ghost use mathlib.Core.Logic.{_⊎_};
 ghost use Prim.Native.Nat.{ℕ, _*_, _/_, _≤_};
 ghost use lib.ListN.{getD};
-ghost use Rattle.entry.specs.Index.{Indexes};
+ghost use Rattle.entry.specs.Internal.{Indexes};
 
 // Every so many ordinals there is an element.
 const STEP: u32 = 4;

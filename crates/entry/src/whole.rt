@@ -6,7 +6,8 @@ use crate::slots;
 use bundle::Kind;
 use bundle::Step;
 ghost use mathlib.Core.Path.{_≡_};
-ghost use Rattle.entry.specs.Table.{tableOf, walkOf};
+ghost use Rattle.entry.specs.Table.{tableOf};
+ghost use Rattle.entry.specs.Internal.{walkOf};
 
 // Walks a table to its end byte, for a module of this many segments, and finds the slot of one ordinal on the way.
 pub fn walk(table: &[u8], segments: u32, number: u32) -> Walked

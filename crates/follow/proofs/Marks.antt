@@ -18,7 +18,7 @@ use Rattle.site.specs.Exact.{Marked}
 use Rattle.site.specs.Walk.{meetsOne}
 use Rattle.site.proofs.Meets.{Good, one-apart, apart-one}
 use Rattle.site.proofs.Bytes.{marked-exactly}
-use Rattle.claim.specs.Claim.{taken}
+use Rattle.claim.specs.Internal.{taken}
 
 -- No byte is marked, said of each.
 none-taken : (width : ℕ) (marks : List ℕ) (at : ℕ) → ((place : ℕ) → at < suc place → place < at + width → byteAt marks place ≡ 0) → taken width marks at ≡ false

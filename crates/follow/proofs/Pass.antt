@@ -14,8 +14,8 @@ use Rattle.refusal.specs.declared.Refusal.the-variants.{SpanOutside, SpanTaken,
 use Rattle.site.specs.Site.{siteOf, widthOf, endOf, put}
 use Rattle.site.specs.Walk.{isLast}
 use Rattle.site.specs.declared.Fixup.{Fixup}
-use Rattle.claim.specs.Claim.{taken}
-use Rattle.follow.specs.Pass.{passed, withSpan, passFrom, claimedPass, fuel}
+use Rattle.claim.specs.Internal.{taken}
+use Rattle.follow.specs.Internal.{passed, withSpan, passFrom, claimedPass, fuel}
 use Rattle.follow.specs.declared.Answer.the-variants.{Ended, Halted}
 
 module _ (stored : List ℕ) (f : Fixup) (at done : ℕ) (marks bytes : List ℕ) where

@@ -19,8 +19,8 @@ use Rattle.site.specs.Walk as walk
 use Rattle.site.specs.Walk.{meetsOne, isLast, followFrom, followed}
 use Rattle.site.specs.declared.Fixup.{Fixup}
 use Rattle.site.proofs.Meets.{Good, good-more}
-use Rattle.claim.specs.Claim.{taken}
-use Rattle.follow.specs.Pass.{Pass, passed, withSpan, passFrom, passOf}
+use Rattle.claim.specs.Internal.{taken}
+use Rattle.follow.specs.Internal.{Pass, passed, withSpan, passFrom, passOf}
 use Rattle.follow.specs.declared.Answer.the-variants.{Ended, Halted}
 use Rattle.follow.proofs.Marks.{marks-length, taken-meets}
 

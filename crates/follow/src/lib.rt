@@ -5,7 +5,7 @@ use refusal::Refusal;
 use site::Action;
 ghost use mathlib.Core.Path.{_≡_};
 ghost use lib.ListN.{length};
-ghost use Rattle.follow.specs.Pass.{passed, actionPass, SameSize};
+ghost use Rattle.follow.specs.Internal.{passed, actionPass, SameSize};
 
 // What going over the sites of a record gives: how many sites there are so far, or the refusal.
 pub enum Answer {

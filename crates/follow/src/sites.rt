@@ -7,7 +7,7 @@ ghost use mathlib.Core.List.{List};
 ghost use Prim.Native.Nat.{ℕ, _+_, _≤_};
 ghost use lib.ListN.{length};
 ghost use Rattle.site.specs.Site.{widthOf};
-ghost use Rattle.follow.specs.Pass.{passed, passOf, passFrom, SameSize, fuel, afterSite, claimedPass, Going};
+ghost use Rattle.follow.specs.Internal.{passed, passOf, passFrom, SameSize, fuel, afterSite, claimedPass, Going};
 
 // What a site gives: that it is the last of its record, or the place of the next one, or the refusal.
 pub enum Site {

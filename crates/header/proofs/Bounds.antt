@@ -8,7 +8,7 @@ use native.Mathlib.Omega.{arith}
 use borrow.Author.Tests.{ltb-false, ne-eqb}
 use lib.ListN.{length}
 use lib.Pow.{pow-mono}
-use Rattle.checks.specs.Checks.{Passed}
+use Rattle.checks.specs.Internal.{Passed}
 use Rattle.checks.proofs.Checks.{passed, answered}
 use Rattle.header.specs.Header.{headerOf, headerChecks, tablesOf, leaves, nePlace, fieldOf}
 use Rattle.header.specs.Inside.{Inside}

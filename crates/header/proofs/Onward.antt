@@ -8,6 +8,5 @@ use Rattle.header.specs.declared.Answer.{Answer}
 use Rattle.header.specs.declared.Answer.the-variants.{Accepted, Refused}
 
 pub onward : {A : Type 0} (a : Answer) (refuse : Refusal → A) (go other : Header → A) → ((h : Header) → go h ≡ other h) → onHeader a refuse go ≡ onHeader a refuse other
-unfolding onHeader
 onward (Accepted h) refuse go other e = e h
 onward (Refused why) refuse go other e = refl

@@ -75,6 +75,6 @@ unfoldable pub lacks : ℕ → ℕ → Bool
 lacks count number = eqb number 0 || ltb count number
 
 -- For whoever goes on from a header: its refusal, or what follows of it.
-unfoldable pub onHeader : {A : Type 0} → Answer → (Refusal → A) → (Header → A) → A
+abbrev pub onHeader : {A : Type 0} → Answer → (Refusal → A) → (Header → A) → A
 onHeader (Accepted h) refuse go = go h
 onHeader (Refused why) refuse go = refuse why

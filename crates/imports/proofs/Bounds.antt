@@ -14,7 +14,7 @@ use Rattle.le.specs.Number.{byteAt, wordAt}
 use Rattle.refusal.specs.declared.Refusal.the-variants.{NoSuchNumber}
 use Rattle.checks.specs.Checks.{_⇒_, decide}
 use Rattle.checks.proofs.Impossible.{never}
-use Rattle.header.specs.Header.{headerOf, onHeader, lacks}
+use Rattle.header.specs.Header.{headerOf, lacks}
 use Rattle.header.specs.declared.Header.{Header}
 use Rattle.header.specs.declared.Answer as header
 use Rattle.header.specs.declared.Answer.the-variants as header-answer
@@ -57,7 +57,7 @@ from-reference image h number text e = go (lacks (h .modules .count) number) e
     go false z = from-named image h (wordAt image (h .modules .at + 2 * (number - 1))) text (stringAt image h (wordAt image (h .modules .at + 2 * (number - 1)))) refl z
 
 pub module-accepted : (image : List ℕ) (number : ℕ) (text : Text) → moduleOf image number ≡ Accepted text → (length image ≤ 16777216) × InImage image text
-unfolding moduleOf onHeader
+unfolding moduleOf
 module-accepted image number text e = go (headerOf image) refl
   where
     go : (a : header.Answer) → headerOf image ≡ a → (length image ≤ 16777216) × InImage image text

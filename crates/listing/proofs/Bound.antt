@@ -26,7 +26,7 @@ use Rattle.bundle.proofs.Went.{Went}
 use Rattle.entry.proofs.Induction.{sound-table}
 use Rattle.listing.specs.Text.{ascii, digitsOf, decimalWidth, decimalOf, hexOf}
 use Rattle.listing.specs.Listing.{numberLine, refusedOf, lineOf, answerLine, tableListing, entriesOf, linesOf, listingOf, most}
-use Rattle.listing.specs.Bundles.{slotLines, bundleLines, bundlesLines}
+use Rattle.listing.specs.Internal.{slotLines, bundleLines, bundlesLines}
 use Rattle.listing.proofs.Digits.{digits-length}
 use Rattle.listing.proofs.ByBundle.{by-bundle}
 
@@ -109,7 +109,7 @@ entries-short image h =
     omega (arith, part, whole)
 
 pub listing-short : (image : List ℕ) → length (listingOf image) ≤ most
-unfolding linesOf listingOf onHeader
+unfolding linesOf listingOf
 listing-short image = go (ltb 65536 (length image)) refl (headerOf image)
   where
     go : (long : Bool) → ltb 65536 (length image) ≡ long → (a : header.Answer) → length (cond long (ascii "too long\n") (onHeader a refusedOf λ h. entriesOf image h)) ≤ most

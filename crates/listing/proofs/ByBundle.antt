@@ -18,7 +18,7 @@ use Rattle.entry.specs.Covered.{Among}
 use Rattle.entry.proofs.Follow.{Follow, sound-follow}
 use Rattle.entry.proofs.Resolves.{entry-in}
 use Rattle.listing.specs.Listing.{answerLine, linesFrom}
-use Rattle.listing.specs.Bundles.{slotLines, bundleLines, bundlesLines}
+use Rattle.listing.specs.Internal.{slotLines, bundleLines, bundlesLines}
 
 lines-append : (m n number : ℕ) (answer : ℕ → Answer) → linesFrom (m + n) number answer ≡ linesFrom m number answer ++ linesFrom n (number + m) answer
 unfolding linesFrom

@@ -2,7 +2,7 @@
 -- Assumes nothing.
 use mathlib.Core.Path.{refl}
 use Rattle.le.specs.Number.{number}
-use Rattle.header.specs.Header.{headerOf, headerChecks, tablesOf, leaves, onHeader, lacks}
+use Rattle.header.specs.Header.{headerOf, headerChecks, tablesOf, leaves, lacks}
 use Rattle.bundle.specs.Bundle.{kindOf, unsoundFrom, bundleAt, bundleChecks, stepOf}
 use Rattle.tables.specs.Table as tables
 use Rattle.entry.specs.Table.{tableOf, slotIn, ordinalsIn}
@@ -12,5 +12,5 @@ use Rattle.listing.specs.Listing.{lineOf, linesFrom, entriesOf, linesOf,
 use Rattle.listing.specs.Examples.{Examples}
 
 pub hold : Examples
-unfolding number headerOf headerChecks tablesOf leaves onHeader lacks kindOf unsoundFrom bundleAt bundleChecks stepOf tables.tableFrom tables.tableOf tableOf slotIn ordinalsIn ordinalIn digitOf digitsOf decimalWidth lineOf linesFrom entriesOf linesOf listingOf
+unfolding number headerOf headerChecks tablesOf leaves lacks kindOf unsoundFrom bundleAt bundleChecks stepOf tables.tableFrom tables.tableOf tableOf slotIn ordinalsIn ordinalIn digitOf digitsOf decimalWidth lineOf linesFrom entriesOf linesOf listingOf
 hold = (refl, refl, refl)

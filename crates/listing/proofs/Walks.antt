@@ -9,10 +9,11 @@ use Rattle.refusal.specs.declared.Refusal.{Refusal}
 use Rattle.entry.specs.declared.Found.{Found}
 use Rattle.entry.specs.declared.Walked.the-variants as walked
 use Rattle.tables.specs.Table.{Sound, Unsound}
-use Rattle.entry.specs.Table.{EntryTable, tableOf, walkOf, ordinalsIn}
+use Rattle.entry.specs.Table.{EntryTable, tableOf, ordinalsIn}
+use Rattle.entry.specs.Internal.{walkOf}
 use Rattle.listing.specs.Text.{ascii}
 use Rattle.listing.specs.Listing.{refusedOf, countOf, tableListing}
-use Rattle.listing.specs.Bundles.{tableLines, isSound}
+use Rattle.listing.specs.Internal.{tableLines, isSound}
 use Rattle.listing.proofs.ByBundle.{by-bundle}
 
 pub is-sound : (t : EntryTable) (number : ℕ) (f : Found) → walkOf t number ≡ walked.Sound f → isSound t ≡ true

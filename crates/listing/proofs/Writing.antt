@@ -11,7 +11,7 @@ use native.Mathlib.Omega.{arith}
 use lib.ListN.{length, set, length-append}
 use lib.Seq.{sets}
 use Rattle.le.specs.Slice.{copied}
-use Rattle.listing.specs.Text.{Wrote}
+use Rattle.listing.specs.Internal.{Wrote}
 
 sets-append : (l : List ℕ) (at : ℕ) (a b : List ℕ) → sets l at (a ++ b) ≡ sets (sets l at a) (at + length a) b
 sets-append l at [] b = let same : at + 0 ≡ at = omega arith in rw same

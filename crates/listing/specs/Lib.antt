@@ -1,4 +1,4 @@
 pub mod Text
 pub mod Listing
-pub mod Bundles
 pub mod Examples
+pub mod Internal

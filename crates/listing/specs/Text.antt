@@ -1,5 +1,4 @@
--- Text as bytes: words in ASCII, decimal and hexadecimal numbers, and text written to a slice.
-use mathlib.Core.Path.{_≡_}
+-- Text as bytes: words in ASCII, decimal and hexadecimal numbers.
 use mathlib.Core.Bool.{cond}
 use mathlib.Core.List.{List, [], _∷_, _++_}
 use Prim.Native.Nat.{ℕ, zero, suc, _+_, _/_, _%_}
@@ -7,8 +6,6 @@ use Prim.Native.Char.{code}
 use Prim.Native.String.{String}
 use Prim.Native.String as string
 use lib.Dec.{ltb}
-use lib.ListN.{length}
-use lib.Seq.{sets}
 
 abbrev pub ascii : String → List ℕ
 ascii string.[] = []
@@ -33,9 +30,3 @@ decimalOf n = digitsOf 10 (decimalWidth n) n
 
 abbrev pub hexOf : ℕ → ℕ → List ℕ
 hexOf width n = digitsOf 16 width n
-
--- That text was written to `before` from the place `at` on, as far as the slice goes, which is then `after`, and that `end`
--- is the place behind the text.
-pub record Wrote (before : List ℕ) (at : ℕ) (text after : List ℕ) (end : ℕ) : Type 0 where
-  pub bytes : after ≡ sets before at text
-  pub place : end ≡ at + length text

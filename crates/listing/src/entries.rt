@@ -11,9 +11,8 @@ ghost use Prim.Native.Nat.{_^_, _<_, _≤_, _+_, _*_};
 ghost use lib.ListN.{length};
 ghost use Rattle.bundle.specs.Bundle.{widthOf};
 ghost use Rattle.entry.specs.Table.{tableOf};
-ghost use Rattle.listing.specs.Text.{Wrote};
+ghost use Rattle.listing.specs.Internal.{Wrote, bundleLines, tableLines, isSound};
 ghost use Rattle.listing.specs.Listing.{entriesOf};
-ghost use Rattle.listing.specs.Bundles.{bundleLines, tableLines, isSound};
 
 // The count, the lines and the last line, or the refusal of the table.
 pub fn list(image: &[u8], h: Header, out: &mut [u8]) -> usize

@@ -4,7 +4,7 @@ use bundle::Answer;
 use bundle::Entry;
 ghost use Prim.Native.Nat.{_+_, _^_, _<_, _≤_};
 ghost use lib.ListN.{length};
-ghost use Rattle.listing.specs.Text.{Wrote};
+ghost use Rattle.listing.specs.Internal.{Wrote};
 ghost use Rattle.listing.specs.Listing.{numberLine, answerLine, lineOf};
 
 // A word and a number, at the front of `out`.

@@ -2,7 +2,8 @@
 ghost use mathlib.Core.Path.{_≡_};
 ghost use mathlib.Core.List.{[], _∷_, _++_};
 ghost use Prim.Native.Nat.{_+_, _^_, _<_, _≤_};
-ghost use Rattle.listing.specs.Text.{Wrote, digitOf, digitsOf, decimalWidth, decimalOf};
+ghost use Rattle.listing.specs.Text.{digitOf, digitsOf, decimalWidth, decimalOf};
+ghost use Rattle.listing.specs.Internal.{Wrote};
 
 // One byte.
 fn byte(out: &mut [u8], at: usize, b: u8) -> usize

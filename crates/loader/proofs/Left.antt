@@ -23,8 +23,7 @@ use Rattle.follow.proofs.Walks.{marksOf, writtenOf}
 use Rattle.prepare.specs.Prepare.{Outcome, requestOf, outcomeOf}
 use Rattle.prepare.specs.declared.Answer.{Answer}
 use Rattle.prepare.specs.declared.Answer.the-variants.{Accepted, Refused}
-use Rattle.loader.specs.Run.{Run, ran, runFrom, actionsIn}
-use Rattle.loader.specs.Room.{Room, Leaves, outcomeIn}
+use Rattle.loader.specs.Internal.{Run, ran, runFrom, actionsIn, Room, Leaves, outcomeIn}
 use Rattle.loader.proofs.Filled.{zeros-front, zeros-behind}
 use Rattle.loader.proofs.Walks.{Runs, runs}
 

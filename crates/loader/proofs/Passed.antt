@@ -21,10 +21,10 @@ use Rattle.prepare.specs.Prepare.{Request, Outcome, Prepared, Refused, requestO
 use Rattle.prepare.specs.Promise.{Promise}
 use Rattle.prepare.proofs.Ready.{is-walked}
 use Rattle.prepare.proofs.Kept.{kept}
-use Rattle.ready.specs.Ready.{readyOf}
+use Rattle.ready.specs.Internal.{readyOf}
 use Rattle.ready.specs.declared.Answer.the-variants as ready
 use Rattle.ready.proofs.Outcome.{was-refused, was-passed}
-use Rattle.loader.specs.Room.{Room, Leaves, outcomeIn}
+use Rattle.loader.specs.Internal.{Room, Leaves, outcomeIn}
 
 module _ (image : List ℕ) (number : ℕ) (selectors answers output marks : List ℕ) (bytes : Bytes image) where
   abbrev request : Request

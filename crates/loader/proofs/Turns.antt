@@ -9,10 +9,10 @@ use lib.ListN.{drop}
 use Rattle.lists.specs.Lists.{each}
 use Rattle.lists.proofs.Each.{each-from, each-end}
 use Rattle.site.specs.declared.Action.{Action}
-use Rattle.follow.specs.Pass.{passed, actionPass}
+use Rattle.follow.specs.Internal.{passed, actionPass}
 use Rattle.follow.specs.declared.Answer as follow
 use Rattle.prepare.specs.declared.Answer.the-variants.{Accepted}
-use Rattle.loader.specs.Run.{ran, onAnswer, runFrom}
+use Rattle.loader.specs.Internal.{ran, onAnswer, runFrom}
 
 module _ (stored : List ℕ) (n : ℕ) (f : ℕ → Action) (number done : ℕ) (marks bytes : List ℕ) where
   pub run-on : (i : ℕ) → i < n → {answer : follow.Answer} {after written : List ℕ} → passed answer after written ≡ actionPass stored (f i) done marks bytes → onAnswer answer number after written (λ more. runFrom stored (drop (suc i) (each n f)) (suc number) more after written) ≡ runFrom stored (drop i (each n f)) number done marks bytes

@@ -12,10 +12,10 @@ use Rattle.site.specs.declared.Action.{Action}
 use Rattle.site.specs.declared.Action.the-variants.{Skip, Apply, Refuse}
 use Rattle.site.proofs.Meets.{Good}
 use Rattle.site.proofs.Accept.{follow-accepted}
-use Rattle.follow.specs.Pass.{Pass, passOf}
+use Rattle.follow.specs.Internal.{Pass, passOf}
 use Rattle.follow.proofs.Walks.{marksOf, writtenOf, Ties, all-tie}
 use Rattle.prepare.specs.declared.Answer.the-variants.{Accepted, Refused}
-use Rattle.loader.specs.Run.{Run, ran, onAnswer, runFrom}
+use Rattle.loader.specs.Internal.{Run, ran, onAnswer, runFrom}
 
 module _ (stored : List ℕ) where
   -- What a pass gave, where going over the records gives that.

@@ -8,8 +8,8 @@ ghost use mathlib.Core.Path.{_≡_};
 ghost use Prim.Native.Nat.{_≤_};
 ghost use lib.ListN.{length, take, drop};
 ghost use Rattle.entry.specs.Ordinal.{tableBytes};
-ghost use Rattle.entry.specs.Index.{Indexes};
-ghost use Rattle.loader.specs.Room.{Room, Leaves, outcomeIn};
+ghost use Rattle.entry.specs.Internal.{Indexes};
+ghost use Rattle.loader.specs.Internal.{Room, Leaves, outcomeIn};
 
 // Segments up to this length take a small array: clearing a large one would cost more than all other work on them.
 const SMALL: u32 = 4096;

@@ -7,10 +7,10 @@ ghost use Prim.Native.Nat.{_*_, _≤_};
 ghost use lib.Dec.{leb};
 ghost use lib.ListN.{length};
 ghost use Rattle.entry.specs.Ordinal.{tableBytes};
-ghost use Rattle.entry.specs.Index.{Indexes};
-ghost use Rattle.target.specs.Checked.{Checked};
-ghost use Rattle.follow.specs.Pass.{SameSize};
-ghost use Rattle.loader.specs.Run.{ran, runFrom, actionsIn};
+ghost use Rattle.entry.specs.Internal.{Indexes};
+ghost use Rattle.target.specs.Internal.{Checked};
+ghost use Rattle.follow.specs.Internal.{SameSize};
+ghost use Rattle.loader.specs.Internal.{ran, runFrom, actionsIn};
 
 // Up to this many records, times bytes of the entry table, looking ordinals up from the table's start costs no more than an index.
 const LITTLE: usize = 1024;

@@ -32,7 +32,7 @@ use Rattle.names.specs.declared.Match.the-variants.{Found, Nothing}
 use Rattle.names.specs.declared.Walked.the-variants as walked
 use Rattle.names.specs.Text.{same}
 use Rattle.names.specs.Names.{listFrom, residentOf, nonresidentEnd, nonresidentOf, textOf, nameByNumber, nameByBytes}
-use Rattle.names.specs.Search.{hasNumber, hasBytes, wanted, orElse, onwards, walkOf, concluded, answerBehind, answerIn, answerOf}
+use Rattle.names.specs.Internal.{hasNumber, hasBytes, wanted, orElse, onwards, walkOf, concluded, answerBehind, answerIn, answerOf}
 use Rattle.names.proofs.Numbers.{numbers}
 
 pub sound-list : {B : Type 0} (image : List ℕ) (t : Table Name Refusal) (p q : Progress) (asked : Request) (name : List ℕ) (refuse : Refusal → B) (go : Progress → B) → walkOf image t p asked name ≡ walked.Sound q → onTable t refuse (λ ns. go (onwards image p asked name ns)) ≡ go q

@@ -22,7 +22,7 @@ use Rattle.tables.specs.Query.{firstOf, numbered}
 use Rattle.lists.specs.Lists.{All}
 use Rattle.lists.proofs.All.{all-map, all-append}
 use Rattle.tables.proofs.Query.{Numbered, first-holds, numbered-first, numbered-append}
-use Rattle.header.specs.Header.{headerOf, onHeader}
+use Rattle.header.specs.Header.{headerOf}
 use Rattle.header.specs.declared.Header.{Header}
 use Rattle.header.specs.declared.Answer as header
 use Rattle.header.specs.declared.Answer.the-variants as header-answer
@@ -66,7 +66,6 @@ module _ (image : List ℕ) (h : Header) (inside : Inside image h) (r : List Nam
 
 -- What holds of every answer that a query gives to sound lists holds of what was asked.
 from-query : (image : List ℕ) (query : List Name → List Name → Answer) (x : Name) (P : Type 0) → asked image query ≡ Accepted x → ((r n : List Name) → Lists image r n → query r n ≡ Accepted x → P) → P
-unfolding onHeader
 from-query image query x P e holds = go (headerOf image) refl
   where
     behind : (h : Header) (i : Inside image h) (r : List Name) → residentOf image h ≡ Sound r → (t : Table Name Refusal) → nonresidentOf image h (length r) ≡ t → onTable t Refused (λ n. query r n) ≡ Accepted x → P

@@ -2,4 +2,4 @@ pub mod Text
 pub mod Names
 pub mod Values
 pub mod InImage
-pub mod Search
+pub mod Internal

@@ -10,7 +10,7 @@ use refusal::Refusal;
 ghost use mathlib.Core.Path.{_≡_};
 ghost use Prim.Native.Nat.{_<_, _^_};
 ghost use Rattle.names.specs.Names.{nameByNumber, nameByBytes};
-ghost use Rattle.names.specs.Search.{answerOf, answerIn, answerBehind, concluded};
+ghost use Rattle.names.specs.Internal.{answerOf, answerIn, answerBehind, concluded};
 
 pub struct Name {
     // Counted from 1, the resident list first.

@@ -9,7 +9,7 @@ use refusal::Refusal;
 ghost use mathlib.Core.Path.{_≡_};
 ghost use Prim.Native.Nat.{_<_, _^_};
 ghost use Rattle.names.specs.Names.{listFrom};
-ghost use Rattle.names.specs.Search.{wanted, chosen, walkOf};
+ghost use Rattle.names.specs.Internal.{wanted, chosen, walkOf};
 
 // Where a list starts, the place behind which nothing of it may lie, and why it is refused where something does.
 pub struct Extent {

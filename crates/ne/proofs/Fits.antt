@@ -10,7 +10,7 @@ use Rattle.names.specs.declared.Name.{Name}
 use Rattle.names.specs.InImage.{InImage}
 use Rattle.names.specs.Names.{nameByNumber, nameByBytes}
 use Rattle.names.proofs.Bounds.{number-accepted, bytes-accepted}
-use Rattle.ne.specs.Fields.{NameFits}
+use Rattle.ne.specs.Internal.{NameFits}
 
 inside : (image : List ℕ) (n : Name) → InImage image n → NameFits (Accepted n)
 inside image n i = (omega (arith, i .number), omega (arith, i .inside, i .size))

@@ -1,9 +1,7 @@
 -- The fields of each C result, in the order of its struct.
 use mathlib.Core.Path.{_≡_}
-use Prim.Native.Nat.{ℕ, _^_, _<_}
+use Prim.Native.Nat.{ℕ}
 use mathlib.Core.List.{List, [], _∷_}
-use Rattle.names.specs.declared.Answer as names
-use Rattle.names.specs.declared.Answer.the-variants.{Accepted, Refused}
 use Rattle.ne.specs.declared.NeHeader.{NeHeader}
 use Rattle.ne.specs.declared.NeSegment.{NeSegment}
 use Rattle.ne.specs.declared.NeOrdinal.{NeOrdinal}
@@ -54,8 +52,3 @@ prepareFields r = r .refusal ∷ r .«record» ∷ r .sites ∷ []
 pub record Prepares (q : Request) (r : NePrepare) (output output′ marks marks′ : List ℕ) : Type 0 where
   pub fields : prepareFields r ≡ valuesOf (answerOf (prepareOf q))
   pub buffers : Promise q (answerOf (prepareOf q)) output output′ marks marks′
-
--- That the numbers of a name's answer fit the fields, as those of every answer to a query do.
-abbrev pub NameFits : names.Answer → Type 0
-NameFits (Accepted n) = (n .number < 2 ^ 32) × (n .at < 2 ^ 32)
-NameFits (Refused why) = Unit

@@ -8,7 +8,8 @@ ghost use Rattle.header.specs.Values as header;
 ghost use Rattle.names.specs.Values as names;
 ghost use Rattle.resources.specs.Values as resources;
 ghost use Rattle.prepare.specs.Prepare as prepared;
-ghost use Rattle.ne.specs.Fields.{NameFits, headerFields, nameFields, resourceFields, prepareFields};
+ghost use Rattle.ne.specs.Fields.{headerFields, nameFields, resourceFields, prepareFields};
+ghost use Rattle.ne.specs.Internal.{NameFits};
 
 pub fn header(answer: header::Answer) -> NeHeader
     ensures { λ r. ⌜ headerFields r ≡ header.valuesOf answer ⌝ }

@@ -3,7 +3,7 @@
 use mathlib.Core.Path.{refl}
 use Rattle.le.specs.Number.{number}
 use Rattle.lists.specs.Lists.{All}
-use Rattle.header.specs.Header.{headerOf, headerChecks, tablesOf, leaves, onHeader, lacks}
+use Rattle.header.specs.Header.{headerOf, headerChecks, tablesOf, leaves, lacks}
 use Rattle.segment.specs.Segment.{fullOf, storedOf, segmentAt, segmentChecks, recordOf}
 use Rattle.bundle.specs.Bundle.{kindOf, unsoundFrom, bundleAt, bundleChecks, stepOf}
 use Rattle.tables.specs.Table as tables
@@ -19,5 +19,5 @@ use Rattle.prepare.specs.Prepare.{sizeChecks, prepareOf}
 use Rattle.prepare.specs.Examples.{Holds, examples}
 
 pub hold : All Holds examples
-unfolding number headerOf headerChecks tablesOf leaves onHeader lacks fullOf storedOf segmentAt segmentChecks recordOf kindOf unsoundFrom bundleAt bundleChecks stepOf tables.tableFrom tables.tableOf tableOf slotIn ordinalIn ordinalOf stringAt recordAt typedOf internalTarget targetOf actionOf written followFrom walkFrom sizeChecks prepareOf
+unfolding number headerOf headerChecks tablesOf leaves lacks fullOf storedOf segmentAt segmentChecks recordOf kindOf unsoundFrom bundleAt bundleChecks stepOf tables.tableFrom tables.tableOf tableOf slotIn ordinalIn ordinalOf stringAt recordAt typedOf internalTarget targetOf actionOf written followFrom walkFrom sizeChecks prepareOf
 hold = (refl, (refl, (refl, (refl, (refl, (refl, (refl, (refl, (refl, (refl, (refl, (refl, (refl, (refl, (refl, (refl, (refl, ((λ number. refl), ((λ number. refl), (refl, tt))))))))))))))))))))

@@ -37,7 +37,7 @@ module _ (q : Request) (h : Header) where
   action g = actionOf (q .image) h (q .selectors) (g .answer) (recordAt (g .bytes) 0)
 
   step-is : headerOf (q .image) ≡ headers.Accepted h → (g : Given) (buffer : List ℕ) → stepOf (q .image) (q .selectors) g buffer ≡ site.stepOf (action g) buffer
-  unfolding stepOf onHeader
+  unfolding stepOf
   step-is good g buffer = rw good
 
   steps-are : headerOf (q .image) ≡ headers.Accepted h → (records : List Given) (buffer : List ℕ) → stepsOf q records buffer ≡ inTurn site.stepOf (map action records) buffer
@@ -45,7 +45,7 @@ module _ (q : Request) (h : Header) where
   steps-are good (g ∷ records) buffer = rw (step-is good g buffer) (steps-are good records (site.stepOf (action g) buffer))
 
   visit-is : headerOf (q .image) ≡ headers.Accepted h → (g : Given) (buffer : List ℕ) → visitedOf (q .image) (q .selectors) g buffer ≡ site.visited (action g) buffer
-  unfolding visitedOf onHeader
+  unfolding visitedOf
   visit-is good g buffer = rw good
 
   visits-are : headerOf (q .image) ≡ headers.Accepted h → (buffer : List ℕ) (records : List Given) → gathered (λ g. visitedOf (q .image) (q .selectors) g buffer) records ≡ gathered (λ a. site.visited a buffer) (map action records)
@@ -80,7 +80,7 @@ stored-sites q h s ready sound =
 
 module _ (image selectors : List ℕ) (g : Given) (buffer : List ℕ) where
   pub own-sites : (place : ℕ) → All (λ x. IsWritten buffer place x → ⊥) (visitedOf image selectors g buffer) → byteAt (stepOf image selectors g buffer) place ≡ byteAt buffer place
-  unfolding stepOf visitedOf onHeader
+  unfolding stepOf visitedOf
   own-sites place free = go (headerOf image) free
     where
       go : (a : header.Answer) → All (λ x. IsWritten buffer place x → ⊥) (onHeader a (λ why. []) (λ h. site.visited (actionOf image h selectors (g .answer) (recordAt (g .bytes) 0)) buffer)) → byteAt (onHeader a (λ why. buffer) (λ h. site.stepOf (actionOf image h selectors (g .answer) (recordAt (g .bytes) 0)) buffer)) place ≡ byteAt buffer place
@@ -88,7 +88,7 @@ module _ (image selectors : List ℕ) (g : Given) (buffer : List ℕ) where
       go (headers.Refused why) k = refl
 
   pub step-length : length (stepOf image selectors g buffer) ≡ length buffer
-  unfolding stepOf onHeader
+  unfolding stepOf
   step-length = go (headerOf image)
     where
       go : (a : header.Answer) → length (onHeader a (λ why. buffer) (λ h. site.stepOf (actionOf image h selectors (g .answer) (recordAt (g .bytes) 0)) buffer)) ≡ length buffer

@@ -10,7 +10,8 @@ use mathlib.Core.Bool.{true, false}
 use mathlib.Core.List.{List, [], _∷_}
 use Prim.Native.Nat.{ℕ, _-_}
 use borrow.Author.Tests.{ltb-true, ltb-false, le-ltb}
-use Rattle.checks.specs.Checks.{Check, _⇒_, decide, Passed}
+use Rattle.checks.specs.Checks.{Check, _⇒_, decide}
+use Rattle.checks.specs.Internal.{Passed}
 use Rattle.checks.proofs.Checks.{decided, tried}
 use Rattle.checks.proofs.Impossible.{never}
 use Rattle.refusal.specs.declared.Refusal.{Refusal}
@@ -84,7 +85,6 @@ module _ (q : Request) {A : Type 0} (refuse : Refusal → A) (go : Header → Se
       over (tables.Unsound why) e = early (by-entries h n e)
 
   pub came : Came (onReady q refuse go)
-  unfolding onHeader
   came = over (headerOf (q .image)) refl
     where
       over : (a : header.Answer) → headerOf (q .image) ≡ a → Came (onReady q refuse go)
@@ -107,7 +107,6 @@ module _ (q : Request) {A B : Type 0} (f : A → B) (refuse : Refusal → A) (go
   map-table h (tables.Unsound why) = refl
 
   pub ready-map : onReady q (λ why. f (refuse why)) (λ h s. f (go h s)) ≡ f (onReady q refuse go)
-  unfolding onHeader
   ready-map = over (headerOf (q .image))
     where
       over : (a : header.Answer) → onHeader a (λ why. f (refuse why)) (λ h. decide (λ why. f (refuse why)) ((lacks (h .segments .count) (q .number) ⇒ NoSuchNumber) ∷ []) (onTable (entriesOf q h) (λ why. f (refuse why)) (λ bundles. onSegment (recordOf (q .image) h (q .number - 1)) (λ why. f (refuse why)) (λ s. decide (λ why. f (refuse why)) (sizeChecks q h s) (f (go h s)))))) ≡ f (onHeader a refuse (λ h. decide refuse ((lacks (h .segments .count) (q .number) ⇒ NoSuchNumber) ∷ []) (onTable (entriesOf q h) refuse (λ bundles. onSegment (recordOf (q .image) h (q .number - 1)) refuse (λ s. decide refuse (sizeChecks q h s) (go h s))))))
@@ -133,5 +132,5 @@ unfolding sizeChecks
 sizes q h s r = (le-ltb _ _ (r .selectors), (le-ltb _ _ (r .answers), (le-ltb _ _ (r .output), (le-ltb _ _ (r .marks), tt))))
 
 pub is-walked : (q : Request) (h : Header) (s : Segment) → Ready q h s → prepareOf q ≡ walked q h s
-unfolding prepareOf onHeader
+unfolding prepareOf
 is-walked q h s r = rw (r .found .numbered .header, r .found .numbered .number, r .found .entries, r .found .segment) (decided refuse (sizeChecks q h s) (walked q h s) (sizes q h s r))

@@ -6,7 +6,7 @@ use mathlib.Core.List.{List, [], _∷_}
 use Prim.Native.Nat.{ℕ, _-_}
 use Rattle.checks.specs.Checks.{_⇒_, decide}
 use Rattle.refusal.specs.declared.Refusal.the-variants.{NoSuchNumber}
-use Rattle.header.specs.Header.{headerOf, onHeader, lacks}
+use Rattle.header.specs.Header.{headerOf, lacks}
 use Rattle.header.specs.declared.Header.{Header}
 use Rattle.header.specs.declared.Answer as header
 use Rattle.header.specs.declared.Answer.the-variants as headers
@@ -36,7 +36,7 @@ module _ (q : Request) (selectors answers : List ℕ) (R : Outcome → Outcome �
   of-number h good false a e = of-table h good (entriesOf q h) a e
 
   pub related : R (prepareOf q) (prepareOf (withLists q selectors answers))
-  unfolding prepareOf onHeader
+  unfolding prepareOf
   related = go (headerOf (q .image)) refl
     where
       go : (a : header.Answer) → headerOf (q .image) ≡ a → R (prepareOf q) (prepareOf (withLists q selectors answers))

@@ -11,7 +11,7 @@ use Rattle.segment.specs.declared.Segment.{Segment}
 use Rattle.prepare.specs.Prepare.{Request, Outcome, refuse, prepareOf}
 use Rattle.prepare.specs.Sound.{Ready}
 use Rattle.prepare.proofs.Ready.{walked, IsEarly, IsReady, came, ready-map}
-use Rattle.ready.specs.Ready.{readyOf}
+use Rattle.ready.specs.Internal.{readyOf}
 use Rattle.ready.specs.declared.Answer.{Answer}
 use Rattle.ready.specs.declared.Answer.the-variants.{Passed, Refused}
 

@@ -11,7 +11,7 @@ use Rattle.checks.specs.Checks.{_⇒_, decide}
 use Rattle.checks.proofs.Impossible.{never}
 use Rattle.refusal.specs.declared.Refusal.{Refusal}
 use Rattle.refusal.specs.declared.Refusal.the-variants.{NoSuchNumber}
-use Rattle.header.specs.Header.{headerOf, onHeader, lacks}
+use Rattle.header.specs.Header.{headerOf, lacks}
 use Rattle.header.specs.declared.Header.{Header}
 use Rattle.header.specs.declared.Answer.the-variants as headers
 use Rattle.segment.specs.Segment.{recordOf, onSegment}
@@ -19,11 +19,12 @@ use Rattle.segment.specs.declared.Segment.{Segment}
 use Rattle.segment.specs.declared.Answer as segment
 use Rattle.segment.specs.declared.Answer.the-variants as segments
 use Rattle.tables.specs.Table.{onTable, Sound, Unsound}
-use Rattle.entry.specs.Table.{EntryTable, walkOf}
+use Rattle.entry.specs.Table.{EntryTable}
+use Rattle.entry.specs.Internal.{walkOf}
 use Rattle.entry.specs.declared.Found.{Found}
 use Rattle.entry.specs.declared.Walked.the-variants as walked
 use Rattle.prepare.specs.Prepare.{Request, entriesOf, sizeChecks}
-use Rattle.ready.specs.Ready.{readyOf, foundOf, sizedOf}
+use Rattle.ready.specs.Internal.{readyOf, foundOf, sizedOf}
 use Rattle.ready.specs.declared.Answer.{Answer}
 use Rattle.ready.specs.declared.Answer.the-variants.{Refused}
 
@@ -37,7 +38,7 @@ sound (Unsound other) number f refuse go e = never cc
 
 module _ (q : Request) where
   pub by-header : (why : Refusal) → headerOf (q .image) ≡ headers.Refused why → Refused why ≡ readyOf q
-  unfolding readyOf onHeader
+  unfolding readyOf
   by-header why e = rw e
 
   module _ (h : Header) where
@@ -54,5 +55,5 @@ module _ (q : Request) where
     of-number false t a = of-table t a
 
     pub by-parts : headerOf (q .image) ≡ headers.Accepted h → readyOf q ≡ on (foundOf (q .image) h (q .number))
-    unfolding readyOf onHeader foundOf sizedOf sizeChecks
+    unfolding readyOf foundOf sizedOf sizeChecks
     by-parts e = rw e (of-number (lacks (h .segments .count) (q .number)) (entriesOf q h) (recordOf (q .image) h (q .number - 1)))

@@ -4,7 +4,7 @@ use header::Header;
 use refusal::Refusal;
 use segment::Answer;
 ghost use mathlib.Core.Path.{_≡_};
-ghost use Rattle.ready.specs.Ready.{foundOf};
+ghost use Rattle.ready.specs.Internal.{foundOf};
 
 // The segment of a number: 8, the whole entry table's 12 to 14, then 10, 11 and 9.
 pub fn segment(image: &[u8], h: Header, number: u32) -> Answer

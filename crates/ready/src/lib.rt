@@ -7,7 +7,7 @@ use refusal::Refusal;
 use segment::Segment;
 ghost use mathlib.Core.Path.{_≡_};
 ghost use Rattle.prepare.specs.Prepare.{requestOf};
-ghost use Rattle.ready.specs.Ready.{readyOf, sizedOf};
+ghost use Rattle.ready.specs.Internal.{readyOf, sizedOf};
 
 pub enum Answer {
     Passed(Header, Segment),

@@ -32,7 +32,7 @@ use Rattle.resources.specs.declared.Match.{Match}
 use Rattle.resources.specs.declared.Match.the-variants.{Found, Nothing}
 use Rattle.resources.specs.declared.Walked.the-variants as walked
 use Rattle.resources.specs.Resource.{stepOf, blockAt, blocksFrom, resourcesOf, dataChecked, hasWords, resourceByNumber, resourceByWords}
-use Rattle.resources.specs.Search.{wanted, walkOf, concluded, answerIn, answerOf}
+use Rattle.resources.specs.Internal.{wanted, walkOf, concluded, answerIn, answerOf}
 use Rattle.resources.proofs.InBlock.{many, in-order}
 use Rattle.resources.proofs.Blocks.{went}
 

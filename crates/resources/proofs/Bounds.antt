@@ -17,7 +17,7 @@ use Rattle.tables.specs.Table.{Table, Sound, Unsound, onTable}
 use Rattle.tables.specs.Query.{numbered, firstOf}
 use Rattle.lists.proofs.All.{all-of}
 use Rattle.tables.proofs.Query.{first-holds, numbered-holds}
-use Rattle.header.specs.Header.{headerOf, onHeader}
+use Rattle.header.specs.Header.{headerOf}
 use Rattle.header.specs.declared.Answer as header
 use Rattle.header.specs.declared.Answer.the-variants as header-answer
 use Rattle.header.proofs.Bounds as header-bounds
@@ -37,7 +37,6 @@ checked len x r e = go (ltb len (x .at + x .len)) refl e
 
 -- What holds of every answer that a query gives to a list holds of what was asked.
 from-query : (image : List ℕ) (query : List Resource → Answer) (r : Resource) (P : Type 0) → asked image query ≡ Accepted r → ((rs : List Resource) → query rs ≡ Accepted r → P) → (length image ≤ 16777216) × P
-unfolding onHeader
 from-query image query r P e holds = go (headerOf image) refl
   where
     in-table : (t : Table Resource Refusal) → onTable t Refused query ≡ Accepted r → P

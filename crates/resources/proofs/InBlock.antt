@@ -23,7 +23,7 @@ use Rattle.resources.specs.declared.block.Block.{Block}
 use Rattle.resources.specs.declared.Match.{Match}
 use Rattle.resources.specs.declared.Match.the-variants.{Found, Nothing}
 use Rattle.resources.specs.Resource.{resourceAt, resourcesFrom, blockResources, highBit, hasWords}
-use Rattle.resources.specs.Search.{hasNumber, hasId}
+use Rattle.resources.specs.Internal.{hasNumber, hasId}
 
 module _ (image : List ℕ) (b : Block) where
   pub many : (left index : ℕ) → length (resourcesFrom left image b index) ≡ left

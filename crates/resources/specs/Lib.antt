@@ -1,4 +1,4 @@
 pub mod Resource
 pub mod Values
 pub mod InImage
-pub mod Search
+pub mod Internal

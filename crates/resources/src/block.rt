@@ -6,7 +6,7 @@ ghost use mathlib.Core.Path.{_≡_};
 ghost use Prim.Native.Nat.{_*_, _≤_, _<_, _^_};
 ghost use Rattle.tables.specs.Query.{firstOf};
 ghost use Rattle.resources.specs.Resource.{resourceAt, blockResources, hasWords, highBit};
-ghost use Rattle.resources.specs.Search.{Whole, hasNumber, hasId, orElse, wanted};
+ghost use Rattle.resources.specs.Internal.{Whole, hasNumber, hasId, orElse, wanted};
 
 pub struct Block {
     pub kind: u16,

@@ -8,7 +8,7 @@ use header::Header;
 use refusal::Refusal;
 ghost use mathlib.Core.Path.{_≡_};
 ghost use Rattle.resources.specs.Resource.{resourceByNumber, resourceByWords};
-ghost use Rattle.resources.specs.Search.{answerOf, answerIn, concluded};
+ghost use Rattle.resources.specs.Internal.{answerOf, answerIn, concluded};
 
 pub struct Resource {
     // Counted from 1 in file order, all types together.

@@ -8,7 +8,7 @@ use refusal::Refusal;
 ghost use mathlib.Core.Path.{_≡_};
 ghost use Prim.Native.Nat.{_≤_, _<_, _^_};
 ghost use Rattle.resources.specs.Resource.{blocksFrom};
-ghost use Rattle.resources.specs.Search.{walkOf};
+ghost use Rattle.resources.specs.Internal.{walkOf};
 
 // Walks the blocks from a place on to the type 0 that ends them, and finds what is asked for on the way.
 pub fn walk(image: &[u8], shift: u16, start: usize, request: Request) -> Walked

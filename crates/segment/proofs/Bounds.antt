@@ -13,11 +13,12 @@ use lib.Dec.{ltb}
 use lib.ListN.{length}
 use Rattle.refusal.specs.declared.Refusal.the-variants.{NoSuchNumber}
 use Rattle.checks.proofs.Impossible.{never}
-use Rattle.checks.specs.Checks.{decide, Passed, _⇒_}
+use Rattle.checks.specs.Checks.{decide, _⇒_}
+use Rattle.checks.specs.Internal.{Passed}
 use Rattle.checks.proofs.Checks.{passed, answered}
 use Rattle.le.specs.Number.{wordAt, Bytes}
 use Rattle.le.proofs.Number.{number-below}
-use Rattle.header.specs.Header.{headerOf, onHeader, lacks}
+use Rattle.header.specs.Header.{headerOf, lacks}
 use Rattle.header.specs.declared.Header.{Header}
 use Rattle.header.specs.declared.Answer as header
 use Rattle.header.specs.declared.Answer.the-variants as header-answer
@@ -81,7 +82,7 @@ allocation-full image h index s e bytes =
 
 -- An accepted segment has an accepted header, and its record is accepted.
 pub accepted : (image : List ℕ) (number : ℕ) (s : Segment) → segmentOf image number ≡ Accepted s → (length image ≤ 16777216) × InImage image s
-unfolding segmentOf onHeader is-refusal
+unfolding segmentOf is-refusal
 accepted image number s e = go (headerOf image) refl
   where
     go : (a : header.Answer) → headerOf image ≡ a → (length image ≤ 16777216) × InImage image s

@@ -16,7 +16,8 @@ use Rattle.checks.proofs.Impossible.{never}
 use Rattle.lists.specs.Lists.{All, Pairs}
 use Rattle.lists.proofs.All.{all-append, all-back, pairs-append, pairs-across, all-map}
 use Rattle.site.specs.Site.{Site, endOf, Inside, Apart}
-use Rattle.checks.specs.Checks.{decide, Passed}
+use Rattle.checks.specs.Checks.{decide}
+use Rattle.checks.specs.Internal.{Passed}
 use Rattle.checks.proofs.Checks.{tried}
 use Rattle.refusal.specs.declared.Refusal.{Refusal}
 use Rattle.refusal.specs.declared.Refusal.the-variants.{SpanOutside, SpanTaken}

@@ -8,7 +8,7 @@ use borrow.Author.Tests.{lt-ltb, le-ltb}
 use denote.Ref.{now}
 use lib.Dec.{ltb}
 use lib.ListN.{length}
-use Rattle.claim.specs.Claim.{claimOf}
+use Rattle.claim.specs.Internal.{claimOf}
 use borrow.Author.Needs.{needs}
 use Rattle.claim.proofs.span.Statement.{statement}
 use Rattle.claim.proofs.span.Tie as tie

@@ -1,7 +1,6 @@
 -- `entry::by_ordinal` meets its contract: the header's answer, then the table's.
 -- Assumes nothing.
 use mathlib.Core.Path.{sym, _∙_}
-use Rattle.header.specs.Header.{onHeader}
 use Rattle.entry.specs.Ordinal.{ordinalOf}
 use borrow.Author.Needs.{needs}
 use Rattle.entry.proofs.by_ordinal.Statement.{statement}
@@ -20,11 +19,11 @@ in-table-requires : tie.Need-in-table-requires
 in-table-requires c κs = search needs
 
 returns : tie.Need-returns
-unfolding ordinalOf onHeader
+unfolding ordinalOf
 returns c = rw (sym (c .before .before .before .read .ensures) ∙ c .before .headers .given .1)
 
 returns-2 : tie.Need-returns-2
-unfolding ordinalOf onHeader
+unfolding ordinalOf
 returns-2 c = rw (sym (c .before .before .before .before .read .ensures) ∙ c .before .before .headers2 .given .1) (c .in-table .ensures)
 
 pub by-ordinal-spec : {M : Type 1} → statement M

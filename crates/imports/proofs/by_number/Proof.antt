@@ -1,7 +1,6 @@
 -- `imports::by_number` meets its contract: the header's answer, then the reference's.
 -- Assumes nothing.
 use mathlib.Core.Path.{_∙_, sym}
-use Rattle.header.specs.Header.{onHeader}
 use Rattle.imports.specs.Module.{moduleOf}
 use borrow.Author.Needs.{needs}
 use Rattle.imports.proofs.by_number.Statement.{statement}
@@ -20,11 +19,11 @@ reference-requires : tie.Need-reference-requires
 reference-requires c κs = search needs
 
 returns : tie.Need-returns
-unfolding moduleOf onHeader
+unfolding moduleOf
 returns c = rw (sym (c .before .before .before .read .ensures) ∙ c .before .headers .given .1)
 
 returns-2 : tie.Need-returns-2
-unfolding moduleOf onHeader
+unfolding moduleOf
 returns-2 c = rw (sym (c .before .before .before .before .read .ensures) ∙ c .before .before .headers2 .given .1) (c .reference .ensures)
 
 pub by-number-spec : {M : Type 1} → statement M

@@ -2,7 +2,6 @@
 -- Assumes nothing.
 use mathlib.Core.Path.{_≡_, _∙_, sym}
 use Rattle.refusal.specs.Number.{numberOf}
-use Rattle.header.specs.Header.{onHeader}
 use Rattle.listing.specs.Listing.{linesOf}
 use Rattle.listing.proofs.Writing.{from-front}
 use borrow.Author.Needs.{needs}
@@ -34,7 +33,7 @@ same-length : tie.Need-same-length
 same-length c = search needs
 
 returns : tie.Need-returns
-unfolding linesOf onHeader
+unfolding linesOf
 returns c =
     let header = sym (c .before .before .before .before .before .before .before .before .before .read .ensures) ∙ c .before .before .before .before .before .before .before .headers .given .1 in
     let number : c .before .before .before .number .result ≡ numberOf (c .before .before .before .before .before .before .before .headers .given .0 .0) = c .before .before .before .number .ensures in
@@ -44,7 +43,7 @@ same-length-2 : tie.Need-same-length-2
 same-length-2 c = search needs
 
 returns-2 : tie.Need-returns-2
-unfolding linesOf onHeader
+unfolding linesOf
 returns-2 c = rw (sym (c .before .before .before .before .before .before .before .read .ensures) ∙ c .before .before .before .before .before .headers2 .given .1) (from-front (c .before .before .list .ensures))
 
 pub of-any-size-spec : {M : Type 1} → statement M

@@ -2,7 +2,6 @@
 -- Assumes nothing.
 use mathlib.Core.Path.{_≡_, refl, sym, _∙_}
 use denote.Ref.{now}
-use Rattle.header.specs.Header.{onHeader}
 use Rattle.fixup.specs.Record.{recordAt}
 use Rattle.fixup.specs.Action.{actionOf}
 use Rattle.prepare.specs.Step.{stepOf}
@@ -29,14 +28,14 @@ carry-out-requires : tie.Need-carry-out-requires
 carry-out-requires c κs = search needs
 
 returns : tie.Need-returns
-unfolding stepOf onHeader
+unfolding stepOf
 returns c = rw (sym (c .before .before .read .ensures) ∙ c .enum-told .given .1) refl
 
 same-length : tie.Need-same-length
 same-length c = search needs
 
 returns-2 : tie.Need-returns-2
-unfolding stepOf onHeader
+unfolding stepOf
 returns-2 c =
     let a = c .before .before .before .before .before .before .before .before .before .before .before .before .before .before .args in
     let h = c .before .before .before .before .before .before .before .before .headers .given .0 .0 in

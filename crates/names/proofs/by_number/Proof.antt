@@ -3,7 +3,7 @@
 use denote.Ref.{now}
 use Rattle.refusal.specs.declared.Refusal.the-variants.{NoSuchNumber}
 use Rattle.names.specs.declared.Request.the-variants.{Number}
-use Rattle.names.specs.Search.{answerOf}
+use Rattle.names.specs.Internal.{answerOf}
 use mathlib.Core.Path.{_≡_, _∙_}
 use Rattle.names.proofs.Answers.{by-number}
 use borrow.Author.Needs.{needs}

@@ -13,7 +13,7 @@ use Rattle.names.specs.declared.Progress.{Progress}
 use Rattle.names.specs.declared.Match.the-variants.{Nothing}
 use Rattle.names.specs.declared.Answer.the-variants.{Refused}
 use Rattle.names.specs.Names.{residentOf}
-use Rattle.names.specs.Search.{answerBehind, answerIn}
+use Rattle.names.specs.Internal.{answerBehind, answerIn}
 use Rattle.names.proofs.Numbers.{few}
 use Rattle.names.proofs.Answers.{sound-list, unsound-list, next-few}
 use borrow.Author.Needs.{needs}

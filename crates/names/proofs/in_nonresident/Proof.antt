@@ -11,7 +11,7 @@ use Rattle.tables.specs.Table.{onTable}
 use Rattle.names.specs.declared.Progress.{Progress}
 use Rattle.names.specs.declared.Answer.the-variants.{Refused}
 use Rattle.names.specs.Names.{listFrom, nonresidentEnd}
-use Rattle.names.specs.Search.{onwards, concluded, answerBehind}
+use Rattle.names.specs.Internal.{onwards, concluded, answerBehind}
 use Rattle.names.proofs.Answers.{sound-list, unsound-list, nothing-behind}
 use borrow.Author.Needs.{needs}
 use Rattle.names.proofs.in_nonresident.Statement.{statement}

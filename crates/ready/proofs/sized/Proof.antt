@@ -7,7 +7,7 @@ use denote.Ref.{now}
 use lib.Dec.{ltb}
 use lib.ListN.{length}
 use Rattle.prepare.specs.Prepare.{sizeChecks}
-use Rattle.ready.specs.Ready.{sizedOf}
+use Rattle.ready.specs.Internal.{sizedOf}
 use borrow.Author.Needs.{needs}
 use Rattle.ready.proofs.sized.Statement.{statement}
 use Rattle.ready.proofs.sized.Tie as tie

@@ -3,7 +3,7 @@
 use denote.Ref.{now}
 use Rattle.refusal.specs.declared.Refusal.the-variants.{NoSuchNumber}
 use Rattle.resources.specs.declared.Request.the-variants.{Number}
-use Rattle.resources.specs.Search.{answerOf}
+use Rattle.resources.specs.Internal.{answerOf}
 use mathlib.Core.Path.{_≡_, _∙_}
 use Rattle.resources.proofs.Answers.{by-number}
 use borrow.Author.Needs.{needs}

@@ -3,7 +3,7 @@
 use denote.Ref.{now}
 use Rattle.refusal.specs.declared.Refusal.the-variants.{NoSuchResource}
 use Rattle.resources.specs.declared.Request.the-variants.{Words}
-use Rattle.resources.specs.Search.{answerOf}
+use Rattle.resources.specs.Internal.{answerOf}
 use mathlib.Core.Path.{_≡_, _∙_}
 use Rattle.resources.proofs.Answers.{by-words}
 use borrow.Author.Needs.{needs}

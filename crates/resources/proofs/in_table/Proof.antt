@@ -8,7 +8,7 @@ use lib.ListN.{length}
 use Rattle.le.specs.Number.{wordAt}
 use Rattle.tables.specs.Query.{firstOf}
 use Rattle.resources.specs.Resource.{blocksFrom}
-use Rattle.resources.specs.Search.{answerIn}
+use Rattle.resources.specs.Internal.{answerIn}
 use Rattle.resources.proofs.Answers.{answerFrom, table-none, table-past, table-shift, table-blocks, sound-answer, unsound-answer}
 use borrow.Author.Needs.{needs}
 use Rattle.resources.proofs.in_table.Statement.{statement}

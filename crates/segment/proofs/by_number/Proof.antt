@@ -3,7 +3,7 @@
 use mathlib.Core.Path.{_≡_, sym, _∙_}
 use mathlib.Core.Bool.{true}
 use native.Mathlib.Omega.{arith}
-use Rattle.header.specs.Header.{onHeader, lacks}
+use Rattle.header.specs.Header.{lacks}
 use Rattle.header.proofs.Numbered.{has}
 use Rattle.segment.specs.Segment.{segmentOf}
 use borrow.Author.Needs.{needs}
@@ -23,7 +23,7 @@ lacks-requires : tie.Need-lacks-requires
 lacks-requires c κs = search needs
 
 returns : tie.Need-returns
-unfolding segmentOf onHeader
+unfolding segmentOf
 returns c =
     let found = c .before .before .before in
     let none : lacks (found .headers2 .given .0 .0 .segments .count) (found .before .before .before .before .args .number) ≡ true = sym (c .before .lacks .ensures) ∙ c .if1 .taken in
@@ -39,11 +39,11 @@ record-requires : tie.Need-record-requires
 record-requires c κs = search needs
 
 returns-2 : tie.Need-returns-2
-unfolding segmentOf onHeader
+unfolding segmentOf
 returns-2 c = rw (sym (c .before .before .before .read .ensures) ∙ c .before .headers .given .1)
 
 returns-3 : tie.Need-returns-3
-unfolding segmentOf onHeader
+unfolding segmentOf
 returns-3 c =
     let found = c .before .before .before .before in
     rw (sym (found .before .before .read .ensures) ∙ found .headers2 .given .1, sym (c .before .before .lacks .ensures) ∙ c .before .if1 .left) (c .«record» .ensures)

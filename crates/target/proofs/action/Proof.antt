@@ -6,7 +6,7 @@ use denote.Ref.{now}
 use Rattle.tables.specs.Table.{Sound}
 use Rattle.entry.specs.Ordinal.{tableBytes, inTable, ordinalIn}
 use borrow.Author.Needs.{needs}
-use Rattle.target.specs.Checked.{Checked, byOrdinal}
+use Rattle.target.specs.Internal.{Checked, byOrdinal}
 use Rattle.target.proofs.Entries.{by-entry, counted}
 use Rattle.target.proofs.action.Statement.{statement}
 use Rattle.target.proofs.action.Tie as tie

@@ -4,7 +4,7 @@ use mathlib.Core.Path.{_≡_, sym, _∙_}
 use mathlib.Core.Bool.{true}
 use denote.Ref.{now}
 use borrow.Author.Needs.{needs}
-use Rattle.target.specs.Checked.{byOrdinal}
+use Rattle.target.specs.Internal.{byOrdinal}
 use Rattle.target.proofs.Entries.{by-entry, counted}
 use Rattle.target.proofs.alone.Statement.{statement}
 use Rattle.target.proofs.alone.Tie as tie

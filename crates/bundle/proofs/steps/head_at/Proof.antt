@@ -7,7 +7,7 @@ use borrow.Author.Needs.{needs}
 use denote.Ref.{now}
 use lib.ListN.{length, List·getD-eq-default}
 use Rattle.le.specs.Number.{byteAt}
-use Rattle.bundle.specs.Bundle.{headOf}
+use Rattle.bundle.specs.Internal.{headOf}
 use Rattle.bundle.proofs.steps.head_at.Statement.{statement}
 use Rattle.bundle.proofs.steps.head_at.Tie as tie
 

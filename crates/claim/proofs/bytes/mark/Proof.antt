@@ -5,7 +5,7 @@ use Prim.Native.Nat.{_+_, _-_, _≤_}
 use native.Mathlib.Omega.{arith}
 use denote.Ref.{now}
 use lib.ListN.{length, length-set}
-use Rattle.claim.specs.Claim.{claimed}
+use Rattle.claim.specs.Internal.{claimed}
 use Rattle.claim.proofs.Spans.{claimed-on}
 use Rattle.claim.proofs.bytes.mark.Statement.{statement}
 use Rattle.claim.proofs.bytes.mark.Tie as tie

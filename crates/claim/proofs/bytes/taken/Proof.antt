@@ -8,7 +8,7 @@ use native.Mathlib.Omega.{arith}
 use borrow.Author.Tests.{eq-eqb, ne-eqb}
 use denote.Ref.{now}
 use lib.ListN.{length, getD}
-use Rattle.claim.specs.Claim.{taken}
+use Rattle.claim.specs.Internal.{taken}
 use Rattle.claim.proofs.Spans.{taken-on}
 use Rattle.claim.proofs.bytes.taken.Statement.{statement}
 use Rattle.claim.proofs.bytes.taken.Tie as tie

@@ -4,7 +4,7 @@ use mathlib.Core.Path.{_≡_, _∙_, refl, sym}
 use mathlib.Core.Bool.{true, false}
 use Prim.Native.Nat.{_-_}
 use denote.Ref.{now}
-use Rattle.claim.specs.Claim.{taken}
+use Rattle.claim.specs.Internal.{taken}
 use borrow.Author.Needs.{needs}
 use Rattle.claim.proofs.inside.any.Statement.{statement}
 use Rattle.claim.proofs.inside.any.Tie as tie

@@ -6,7 +6,7 @@ use Prim.Native.Nat.{ℕ, suc, _+_}
 use native.Mathlib.Omega.{arith}
 use denote.Ref.{now}
 use lib.ListN.{length-set}
-use Rattle.claim.specs.Claim.{taken}
+use Rattle.claim.specs.Internal.{taken}
 use Rattle.claim.proofs.Spans.{met, unmet}
 use borrow.Author.Needs.{needs}
 use Rattle.claim.proofs.inside.dword.Statement.{statement}

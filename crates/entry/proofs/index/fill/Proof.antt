@@ -6,7 +6,7 @@ use native.Mathlib.Omega.{arith}
 use borrow.Author.Needs.{needs}
 use denote.Ref.{now}
 use lib.ListN.{length}
-use Rattle.entry.specs.Index.{Indexes}
+use Rattle.entry.specs.Internal.{Indexes}
 use Rattle.entry.proofs.Marks.{mark-goes-on}
 use Rattle.entry.proofs.Indexed.{Marked, start-marked, put-indexes}
 use Rattle.entry.proofs.index.fill.Statement.{statement}

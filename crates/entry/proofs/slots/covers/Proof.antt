@@ -1,12 +1,16 @@
 -- `entry::slots::covers` meets its contract: the two comparisons are the definition's.
 -- Assumes nothing.
+use Prim.Native.Nat.{_≤_}
+use native.Mathlib.Omega.{arith}
 use borrow.Author.Tests.{lt-ltb, le-ltb}
 use borrow.Author.Needs.{needs}
 use Rattle.entry.proofs.slots.covers.Statement.{statement}
 use Rattle.entry.proofs.slots.covers.Tie as tie
 
 returns : tie.Need-returns
-returns c = rw (le-ltb _ _ (c .if1 .taken))
+returns c =
+    let before : c .before .before .args .number ≤ c .before .before .args .b .used = omega arith in
+    rw (le-ltb (c .before .before .args .b .used) (c .before .before .args .number) before)
 
 cast-last : tie.Need-cast-last
 cast-last c = search needs

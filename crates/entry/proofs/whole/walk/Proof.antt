@@ -14,7 +14,8 @@ use Rattle.entry.specs.declared.Slot.{Slot}
 use Rattle.entry.specs.declared.Walked.{Walked}
 use Rattle.entry.specs.declared.Walked.the-variants as walked
 use Rattle.tables.specs.Table.{Sound, Unsound, after}
-use Rattle.entry.specs.Table.{EntryTable, tableAt, tableOf, walkOf, ordinalsIn, covers, slotOf, noSlot}
+use Rattle.entry.specs.Table.{EntryTable, tableAt, tableOf, ordinalsIn, covers, slotOf, noSlot}
+use Rattle.entry.specs.Internal.{walkOf}
 use Rattle.bundle.proofs.Went.{Went, went}
 use Rattle.entry.proofs.Follow.{sound-follow, lastIn, last-is-first}
 use Rattle.entry.proofs.Turns.{unrolled, whole}

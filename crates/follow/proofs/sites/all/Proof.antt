@@ -7,7 +7,7 @@ use native.Mathlib.Numerals.{add-one}
 use borrow.Author.Needs.{needs}
 use denote.Ref.{now}
 use lib.ListN.{length}
-use Rattle.follow.specs.Pass.{passed, passFrom, fuel}
+use Rattle.follow.specs.Internal.{passed, passFrom, fuel}
 use Rattle.follow.specs.declared.Answer.the-variants.{Ended}
 use Rattle.follow.proofs.sites.all.Statement.{statement}
 use Rattle.follow.proofs.sites.all.Tie as tie

@@ -13,7 +13,7 @@ use Rattle.site.specs.Site.{siteOf, widthOf, put}
 use Rattle.site.specs.Walk.{isLast}
 use Rattle.site.proofs.Spans.{wide-chained}
 use Rattle.patch.proofs.Written.{put-is}
-use Rattle.follow.specs.Pass.{passFrom, fuel}
+use Rattle.follow.specs.Internal.{passFrom, fuel}
 use Rattle.follow.proofs.Pass.{over, ends, goes}
 use borrow.Author.Needs.{needs}
 use Rattle.follow.proofs.sites.claimed.Statement.{statement}

@@ -8,7 +8,7 @@ use denote.Ref.{now}
 use lib.ListN.{length}
 use Rattle.site.specs.Site.{widthOf}
 use Rattle.claim.proofs.Cases.{told}
-use Rattle.follow.specs.Pass.{fuel}
+use Rattle.follow.specs.Internal.{fuel}
 use Rattle.follow.proofs.Pass.{outside, met, free}
 use borrow.Author.Needs.{needs}
 use Rattle.follow.proofs.sites.one.Statement.{statement}

@@ -12,9 +12,8 @@ use lib.ListN.{length, drop}
 use Rattle.bundle.specs.declared.Kind.{Kind}
 use Rattle.bundle.specs.Bundle.{widthOf, entryOf}
 use Rattle.bundle.proofs.Widths.{one-width}
-use Rattle.listing.specs.Text.{Wrote}
+use Rattle.listing.specs.Internal.{Wrote, slotLines}
 use Rattle.listing.specs.Listing.{answerLine}
-use Rattle.listing.specs.Bundles.{slotLines}
 use Rattle.listing.proofs.Writing.{Still, more, done}
 use Rattle.listing.proofs.Writing as writing
 use Rattle.listing.proofs.entries.bundle.Statement.{statement}

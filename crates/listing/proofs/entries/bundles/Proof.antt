@@ -15,7 +15,7 @@ use Rattle.tables.specs.Table.{Sound, Unsound, after}
 use Rattle.entry.specs.Table.{EntryTable, tableAt, tableOf}
 use Rattle.bundle.proofs.Went.{Went, went}
 use Rattle.entry.proofs.Turns.{unrolled, whole}
-use Rattle.listing.specs.Bundles.{bundleLines, bundlesLines, tableLines, isSound}
+use Rattle.listing.specs.Internal.{bundleLines, bundlesLines, tableLines, isSound}
 use Rattle.listing.proofs.Writing.{Still, start, more, done}
 use Rattle.listing.proofs.entries.bundles.Statement.{statement}
 use Rattle.listing.proofs.entries.bundles.Tie as tie

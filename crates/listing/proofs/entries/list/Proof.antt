@@ -4,7 +4,8 @@ use mathlib.Core.Path.{_≡_, _∙_, sym}
 use native.Mathlib.Omega.{arith}
 use denote.Ref.{now}
 use Rattle.entry.specs.declared.Walked.the-variants as walked
-use Rattle.entry.specs.Table.{tableOf, walkOf}
+use Rattle.entry.specs.Table.{tableOf}
+use Rattle.entry.specs.Internal.{walkOf}
 use Rattle.listing.specs.Listing.{entriesOf}
 use Rattle.listing.proofs.Writing.{then}
 use Rattle.listing.proofs.Walks.{is-sound, unsound-listing, sound-listing}

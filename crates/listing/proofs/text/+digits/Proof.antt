@@ -4,7 +4,8 @@ use mathlib.Core.Path.{_≡_, _∙_, sym}
 use mathlib.Core.List.{[], _∷_, _++_}
 use native.Mathlib.Omega.{arith}
 use denote.Ref.{now}
-use Rattle.listing.specs.Text.{digitOf, digitsOf, Wrote}
+use Rattle.listing.specs.Text.{digitOf, digitsOf}
+use Rattle.listing.specs.Internal.{Wrote}
 use Rattle.listing.proofs.Writing.{nothing, then}
 use Prim.Native.Nat.{ℕ, zero, suc, _-_, _/_, _%_, _<_}
 use native.Mathlib.Nat.{not-suc-le-zero, lt-of-lt-of-le, mod-lt}

@@ -8,7 +8,7 @@ use native.Mathlib.Numerals.{add-one}
 use denote.Ref.{now}
 use lib.ListN.{length, take, getD}
 use lib.Seq.{take-suc, take-length, length-take-le}
-use Rattle.listing.specs.Text.{Wrote}
+use Rattle.listing.specs.Internal.{Wrote}
 use Rattle.listing.proofs.Writing.{nothing, then}
 use Rattle.listing.proofs.text.ascii.Statement.{statement}
 use Rattle.listing.proofs.text.ascii.Tie as tie

@@ -11,7 +11,7 @@ use Rattle.fixup.specs.Record.{recordAt}
 use Rattle.fixup.specs.Action.{actionOf}
 use Rattle.site.specs.declared.Action.{Action}
 use Rattle.prepare.specs.declared.Answer.the-variants.{Refused}
-use Rattle.loader.specs.Run.{ran, onAnswer, runFrom, actionsIn}
+use Rattle.loader.specs.Internal.{ran, onAnswer, runFrom, actionsIn}
 use Rattle.loader.proofs.Turns.{run-on, run-end}
 use Rattle.loader.proofs.records.all.Statement.{statement}
 use Rattle.loader.proofs.records.all.Tie as tie

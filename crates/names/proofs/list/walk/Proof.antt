@@ -20,7 +20,7 @@ use Rattle.names.specs.declared.Match.the-variants.{Found, Nothing}
 use Rattle.names.specs.declared.Walked.{Walked}
 use Rattle.names.specs.declared.Walked.the-variants as walked
 use Rattle.names.specs.Names.{nameAt, listFrom}
-use Rattle.names.specs.Search.{wanted, orElse, chosen}
+use Rattle.names.specs.Internal.{wanted, orElse, chosen}
 use Rattle.names.proofs.Listed.{past, ended, cut, one-name}
 use Rattle.names.proofs.list.walk.Statement.{statement}
 use Rattle.names.proofs.list.walk.Tie as tie

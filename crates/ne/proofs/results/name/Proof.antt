@@ -1,7 +1,7 @@
 -- `ne::results::name` meets its contract: each arm hands the answer's numbers over.
 -- Assumes nothing.
 use Rattle.names.specs.declared.Answer.the-variants.{Accepted}
-use Rattle.ne.specs.Fields.{NameFits}
+use Rattle.ne.specs.Internal.{NameFits}
 use borrow.Author.Needs.{needs}
 use Rattle.ne.proofs.results.name.Statement.{statement}
 use Rattle.ne.proofs.results.name.Tie as tie

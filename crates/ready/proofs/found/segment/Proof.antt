@@ -8,7 +8,7 @@ use Rattle.header.specs.Header.{lacks}
 use Rattle.header.proofs.Numbered.{has}
 use Rattle.segment.specs.declared.Answer.the-variants as segments
 use Rattle.entry.specs.Table.{tableOf}
-use Rattle.ready.specs.Ready.{foundOf}
+use Rattle.ready.specs.Internal.{foundOf}
 use Rattle.ready.proofs.Parts.{unsound, sound}
 use borrow.Author.Needs.{needs}
 use Rattle.ready.proofs.found.segment.Statement.{statement}

@@ -21,7 +21,7 @@ use Rattle.resources.specs.declared.Match.the-variants.{Found, Nothing}
 use Rattle.resources.specs.declared.Walked.{Walked}
 use Rattle.resources.specs.declared.Walked.the-variants as walked
 use Rattle.resources.specs.Resource.{blockAt, blocksFrom, blockResources}
-use Rattle.resources.specs.Search.{orElse, wanted, walkOf}
+use Rattle.resources.specs.Internal.{orElse, wanted, walkOf}
 use Rattle.resources.proofs.Blocks.{tableAt, past, ended, cut, one-block}
 use Rattle.resources.proofs.table.walk.Statement.{statement}
 use Rattle.resources.proofs.table.walk.Tie as tie

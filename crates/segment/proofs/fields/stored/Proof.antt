@@ -1,5 +1,6 @@
 -- `segment::fields::stored` meets its contract: the test is the definition's.
 -- Assumes nothing.
+use mathlib.Core.Path.{_≡_}
 use borrow.Author.Tests.{eq-eqb, ne-eqb}
 use Rattle.segment.specs.Segment.{storedOf}
 use borrow.Author.Needs.{needs}
@@ -8,7 +9,9 @@ use Rattle.segment.proofs.fields.stored.Tie as tie
 
 returns : tie.Need-returns
 unfolding storedOf
-returns c = (simp (eq-eqb _ _ (c .if1 .taken)), search needs)
+returns c =
+    let zero : c .before .args .sector ≡ 0 = c .if1 .taken in
+    (simp (eq-eqb (c .before .args .sector) 0 zero), search needs)
 
 full-requires : tie.Need-full-requires
 full-requires c κs = search needs

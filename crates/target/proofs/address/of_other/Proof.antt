@@ -15,7 +15,7 @@ use Rattle.fixup.specs.declared.Record.{Record}
 use Rattle.fixup.specs.declared.Target.the-variants.{Import}
 use Rattle.fixup.specs.Target.{segmentTarget, importTarget, internalTarget, nameTarget, targetOf}
 use borrow.Author.Needs.{needs}
-use Rattle.target.specs.Checked.{byOrdinal}
+use Rattle.target.specs.Internal.{byOrdinal}
 use Rattle.target.proofs.address.of_other.Statement.{statement}
 use Rattle.target.proofs.address.of_other.Tie as tie
 
