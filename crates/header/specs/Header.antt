@@ -52,7 +52,15 @@ tableChecks len h =
     ∷ (leaves len (h .nonresident .at) (h .nonresident .count) ⇒ NonresidentTable)
     ∷ []
 
--- The refusals 1 to 7 in their order. "MZ" is 4Dh 5Ah and "NE" is 4Eh 45h, each read as a word.
+-- The refusals 5 to 7 of the NE header at a place: "no "NE"", "alignment shift over 15", then the tables. "NE" is 4Eh 45h, read
+-- as a word.
+abbrev pub neChecks : List ℕ → ℕ → List (Check Refusal)
+neChecks image ne =
+    (not (eqb (wordAt image ne) 0x454e) ⇒ NoNe)
+    ∷ (ltb 15 (fieldOf image ne 0x32) ⇒ Shift)
+    ∷ tableChecks (length image) (tablesOf image ne)
+
+-- The refusals 1 to 7 in their order. "MZ" is 4Dh 5Ah, read as a word.
 unfoldable pub headerChecks : List ℕ → List (Check Refusal)
 headerChecks image =
     let ne = nePlace image in
@@ -62,9 +70,7 @@ headerChecks image =
     ∷ (not (eqb (wordAt image 0) 0x5a4d) ⇒ NoMz)
     ∷ (ltb ne 64 ⇒ NePlace)
     ∷ (ltb len (ne + 64) ⇒ NePlace)
-    ∷ (not (eqb (wordAt image ne) 0x454e) ⇒ NoNe)
-    ∷ (ltb 15 (fieldOf image ne 0x32) ⇒ Shift)
-    ∷ tableChecks len (tablesOf image ne)
+    ∷ neChecks image ne
 
 -- What the header of an image answers: the first refusal, or where everything stands.
 unfoldable pub headerOf : List ℕ → Answer

@@ -3,7 +3,7 @@ use refusal::Refusal;
 ghost use mathlib.Core.Path.{_≡_};
 ghost use Prim.Native.Nat.{_+_, _≤_, _<_, _^_};
 ghost use Rattle.checks.specs.Checks.{decide};
-ghost use Rattle.header.specs.Header.{headerOf, tableChecks, tablesOf, fieldOf, leaves, lacks};
+ghost use Rattle.header.specs.Header.{headerOf, neChecks, tableChecks, tablesOf, fieldOf, leaves, lacks};
 
 // A table of `count` elements from the place `at` on, counted from the file's start.
 pub struct Table {
@@ -53,6 +53,15 @@ pub fn read(image: &[u8]) -> Answer
     if len < at + 64 {
         return Answer::Refused(Refusal::NePlace);
     }
+    second(image, ne)
+}
+
+// The NE header at a place: refusals 5 to 7.
+fn second(image: &[u8], ne: u32) -> Answer
+    requires { ⌜ ne ≤ 16777216 ⌝ }
+    ensures { λ r. ⌜ r ≡ decide Answer.Refused (neChecks (now (image .entry)) ne) (Answer.Accepted (tablesOf (now (image .entry)) ne)) ⌝ }
+{
+    let at = ne as usize;
     if le::word(image, at) != 0x454e {
         return Answer::Refused(Refusal::NoNe);
     }
@@ -60,7 +69,7 @@ pub fn read(image: &[u8]) -> Answer
     if 15 < shift {
         return Answer::Refused(Refusal::Shift);
     }
-    inside(len, tables(image, ne, shift))
+    inside(image.len(), tables(image, ne, shift))
 }
 
 // Whether a table of `count` elements lacks the one of a number. Numbers count from 1.

@@ -11,7 +11,7 @@ use lib.ListN.{length, drop}
 use Rattle.le.specs.Number.{wordAt}
 use Rattle.checks.specs.Checks.{decide}
 use Rattle.checks.proofs.Tests.{eq-not-eqb, ne-not-eqb}
-use Rattle.header.specs.Header.{headerOf, headerChecks, tablesOf, nePlace, fieldOf}
+use Rattle.header.specs.Header.{headerOf, headerChecks, tablesOf, nePlace}
 use Rattle.header.specs.declared.Answer.the-variants.{Accepted, Refused}
 use borrow.Author.Needs.{needs}
 use Rattle.header.proofs.read.Statement.{statement}
@@ -55,22 +55,6 @@ after5 c =
     let im = now (c .before .before .before .before .before .before .before .before .args .image) in
     let h : nePlace im + 64 ≤ length im = omega arith in
     after4 (c .before) ∙ rw (le-ltb (length im) (nePlace im + 64) h)
-
-after6 : (c : tie.Else6) → After 6 (now (c .before .before .before .before .before .before .before .before .before .before .args .image))
-unfolding headerOf headerChecks
-after6 c =
-    let im = now (c .before .before .before .before .before .before .before .before .before .before .args .image) in
-    let read = rw (c .before .before .before .before .dword .ensures) at (c .before .word2 .ensures) in
-    let h : wordAt im (nePlace im) ≡ 0x454e = omega arith in
-    after5 (c .before .before) ∙ rw (eq-not-eqb (wordAt im (nePlace im)) 0x454e h)
-
-after7 : (c : tie.Else7) → After 7 (now (c .before .before .before .before .before .before .before .before .before .before .before .before .args .image))
-unfolding headerOf headerChecks
-after7 c =
-    let im = now (c .before .before .before .before .before .before .before .before .before .before .before .before .args .image) in
-    let read = rw (c .before .before .before .before .before .before .dword .ensures) at (c .before .word3 .ensures) in
-    let h : fieldOf im (nePlace im) 0x32 ≤ 15 = omega arith in
-    after6 (c .before .before) ∙ rw (le-ltb 15 (fieldOf im (nePlace im) 0x32) h)
 
 returns : tie.Need-returns
 unfolding headerOf headerChecks
@@ -119,42 +103,13 @@ returns-5 c =
     let h : length im < nePlace im + 64 = omega arith in
     sym (after4 (c .before) ∙ rw (lt-ltb (length im) (nePlace im + 64) h))
 
-word-requires-2 : tie.Need-word-requires-2
-word-requires-2 c κs = search needs
+second-requires : tie.Need-second-requires
+second-requires c κs = search needs
 
 returns-6 : tie.Need-returns-6
-unfolding headerOf headerChecks
-returns-6 c =
-    let im = now (c .before .before .before .before .before .before .before .before .before .before .args .image) in
-    let read = rw (c .before .before .before .before .dword .ensures) at (c .before .word2 .ensures) in
-    let h : wordAt im (nePlace im) ≡ 0x454e → ⊥ = λ e. omega arith in
-    sym (after5 (c .before .before) ∙ rw (ne-not-eqb (wordAt im (nePlace im)) 0x454e h))
-
-add-word : tie.Need-add-word
-add-word c = search needs
-
-word-requires-3 : tie.Need-word-requires-3
-word-requires-3 c κs = search needs
-
-returns-7 : tie.Need-returns-7
-unfolding headerOf headerChecks
-returns-7 c =
-    let im = now (c .before .before .before .before .before .before .before .before .before .before .before .before .args .image) in
-    let read = rw (c .before .before .before .before .before .before .dword .ensures) at (c .before .word3 .ensures) in
-    let h : 15 < fieldOf im (nePlace im) 0x32 = omega arith in
-    sym (after6 (c .before .before) ∙ rw (lt-ltb 15 (fieldOf im (nePlace im) 0x32) h))
-
-tables-requires : tie.Need-tables-requires
-tables-requires c κs = search needs
-
-inside-requires : tie.Need-inside-requires
-inside-requires c κs = search needs
-
-returns-8 : tie.Need-returns-8
 unfolding headerChecks
-returns-8 c =
-    c .inside .ensures
-    ∙ rw (c .before .tables .ensures, c .before .before .before .before .before .before .before .before .dword .ensures) (sym (after7 (c .before .before)))
+returns-6 c =
+    c .second .ensures ∙ rw (c .before .before .before .dword .ensures) (sym (after5 (c .before)))
 
 pub read-spec : {M : Type 1} → statement M
 read-spec =
@@ -169,11 +124,5 @@ read-spec =
     returns-4
     add-if5
     returns-5
-    word-requires-2
-    returns-6
-    add-word
-    word-requires-3
-    returns-7
-    tables-requires
-    inside-requires
-    returns-8)
+    second-requires
+    returns-6)
