@@ -12,8 +12,9 @@ use std::time::Duration;
 /// How long a family is measured, unless the fewest rounds take longer.
 const ENOUGH: Duration = Duration::from_secs(1);
 /// So many times the time with direct targets is the most that a segment may
-/// take. No proof says so: the index of the entry table keeps its promise empty
-/// too, and then records by ordinal take hundreds of times as long.
+/// take. No proof says so: an index of the entry table that is never filled
+/// keeps its promise too, and then records by ordinal take over a thousand times
+/// as long.
 const TARGET: f64 = 4.0;
 
 /// The worst segment of a family.
