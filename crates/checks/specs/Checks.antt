@@ -1,4 +1,4 @@
--- A list of checks in a fixed order. Document 01: "Bad input gets one refusal number", the first in the order given there.
+-- A list of checks in a fixed order. Demand 1: "one refusal number from our list, chosen by a fixed order", which document 01 gives.
 use mathlib.Core.Bool.{Bool, cond}
 use mathlib.Core.List.{List, [], _∷_}
 

@@ -36,6 +36,6 @@ entryIn image h number b = entryOf (b .kind) (drop (slotOf b number .at) (tableB
 abbrev pub Resolves : List ℕ → ℕ → Type 0
 Resolves image number = (e : Entry) × (ordinalOf image number ≡ Accepted e)
 
--- "the table is sound and a bundle that isn't null covers it".
+-- "the entry table is sound and a bundle that isn't null covers it".
 abbrev pub IsCovered : List ℕ → Header → ℕ → Type 0
 IsCovered image h number = (b : Bundle) × Covered image h number b

@@ -53,11 +53,11 @@ pub fn read(image: &[u8]) -> Answer
     if len < at + 64 {
         return Answer::Refused(Refusal::NePlace);
     }
-    second(image, ne)
+    ne_header(image, ne)
 }
 
 // The NE header at a place: refusals 5 to 7.
-fn second(image: &[u8], ne: u32) -> Answer
+fn ne_header(image: &[u8], ne: u32) -> Answer
     requires { ⌜ ne ≤ 16777216 ⌝ }
     ensures { λ r. ⌜ r ≡ decide Answer.Refused (neChecks (now (image .entry)) ne) (Answer.Accepted (tablesOf (now (image .entry)) ne)) ⌝ }
 {

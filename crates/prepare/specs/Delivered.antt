@@ -21,18 +21,18 @@ pub record Holds (allocation : ℕ) (bytes before after : List ℕ) : Type 0 whe
 
 pub record Delivered (q : Request) (h : Header) (s : Segment) (count : ℕ) (bytes marks : List ℕ) : Type 0 where
   pub sound : Sound q h s
-  -- "its stored bytes, zeros up to its allocation, and at each fixup site exactly what the tables put there, nothing else
-  -- changed."
+  -- "its stored bytes, zeros up to its allocation, and at each fixup site exactly what the published New Executable tables, as
+  -- settled in document 01, put there, and nothing else changed."
   pub exact : Exact (storedOf q s) (s .allocation) (sound .sites) bytes
   pub stands : All (λ x. Stands (x .fixup .kind) (x .fixup .additive) (x .fixup) (storedOf q s) (x .at) bytes) (sound .sites)
   -- "output past the allocation is unchanged".
   pub output : (before : List ℕ) → length before ≡ q .output → Holds (s .allocation) bytes before (outputAfter (Prepared count bytes marks) before)
   -- "a mark is 1 exactly at a byte of a span, else 0."
   pub marked : Marked (q .marks) (sound .sites) marks
-  -- "The reported site count is the number of sites in the stored chains plus the single additive ones, and at most the
-  -- number of stored bytes."
+  -- "The reported site count is the number of sites in that segment's chains as stored plus the number of its single additive
+  -- sites. It is at most the number of stored bytes."
   pub sum : count ≡ inChains (sound .chains) + singles (sound .chains)
   pub bound : count ≤ s .stored
-  -- "Carrying out all records by document 01's step, one at a time on the buffer that the last one left, in every order of the
-  -- whole list, ends in exactly the prepared bytes."
+  -- "Carry out all its records by document 01's step, one at a time". "For every order of the whole list, the buffer at the end
+  -- is, byte for byte, what preparing put in the output up to the allocation, and these are the bytes of demand 2."
   pub order : EveryOrder q s bytes

@@ -53,15 +53,15 @@ pub record BadRecord (q : Request) (h : Header) (s : Segment) (index : ℕ) (why
   pub with-it : Sound q h (firstRecords (suc index) s) → ⊥
   pub because : RefusedAs (q .image) h (recordIn q s index) why ⊎ ((f : Fixup) × (actionIn q h s index ≡ Apply f) × BadSite (storedOf q s) (before .sites) f why)
 
--- "Beside it at most the bad record's number": "22 to 26 [...] also give its number from 1", the others none.
+-- "Beside it a refusal gives at most the bad record's place in its list": "22 to 26 [...] also give its number from 1", the others none.
 pub data Beside (q : Request) (why : Refusal) : ℕ → Type 0 where
   nothing : Between 1 21 why → Early q why → Beside q why 0
   its-number : {index : ℕ} (h : Header) (s : Segment) → Between 22 26 why → Ready q h s → BadRecord q h s index why → Beside q why (suc index)
 
 pub record Rejected (q : Request) (why : Refusal) (number : ℕ) : Type 0 where
-  -- "Bad input gets one refusal number from document 01's list, chosen by its fixed order. Beside it at most the bad record's
-  -- number".
+  -- "one refusal number from our list, chosen by a fixed order. Beside it a refusal gives at most the bad record's place in its
+  -- list".
   pub beside : Beside q why number
-  -- "output as it came; marks, where lent, all zeros."
+  -- "the output buffer is as it came, and the mark buffer, where lent, is all zeros."
   pub output : (before : List ℕ) → outputAfter (prepareOf q) before ≡ before
   pub marks : (before : List ℕ) → marksAfter (prepareOf q) before ≡ zeros (length before)

@@ -40,11 +40,11 @@ givenIn q s i = oneOf (bytesAt (listOf q s) i) (importAnswer q i)
 abbrev pub givenOf : Request → Segment → List Given
 givenOf q s = each (s .records) (givenIn q s)
 
--- "Carrying out all records by document 01's step, one at a time on the buffer that the last one left".
+-- "Carry out all its records by document 01's step, one at a time [...]. Each gets the buffer that the last one left".
 abbrev pub stepsOf : Request → List Given → List ℕ → List ℕ
 stepsOf q records buffer = inTurn (stepOf (q .image) (q .selectors)) records buffer
 
--- "in every order of the whole list, ends in exactly the prepared bytes." Each record comes once and has its own answer; the
--- start is the stored bytes, and zeros up to the allocation.
+-- "For every order of the whole list, the buffer at the end is, byte for byte, what preparing put in the output up to the
+-- allocation". "each once, each with its own import answer"; "Start from its stored bytes and zeros up to its allocation."
 abbrev pub EveryOrder : Request → Segment → List ℕ → Type 0
 EveryOrder q s bytes = (records : List Given) → Perm (givenOf q s) records → stepsOf q records (unfixed (storedOf q s) (s .allocation)) ≡ bytes

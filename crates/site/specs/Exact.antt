@@ -15,8 +15,8 @@ use Rattle.site.specs.declared.Fixup.{Fixup}
 abbrev pub IsWritten : List ℕ → ℕ → Site → Type 0
 IsWritten stored place s = (s .at ≤ place) × (place < s .at + length (written stored s))
 
--- "An accepted segment is its stored bytes, zeros up to its allocation, and at each fixup site exactly what the tables put
--- there, nothing else changed." A byte past the stored ones reads as 0.
+-- "An accepted segment is its stored bytes, zeros up to its allocation, and at each fixup site exactly what the published New
+-- Executable tables, as settled in document 01, put there, and nothing else changed." A byte past the stored ones reads as 0.
 pub record Exact (stored : List ℕ) (allocation : ℕ) (sites : List Site) (output : List ℕ) : Type 0 where
   pub size : length output ≡ allocation
   pub there : All (λ s. (i : ℕ) → i < length (written stored s) → byteAt output (s .at + i) ≡ byteAt (written stored s) i) sites

@@ -103,13 +103,13 @@ returns-5 c =
     let h : length im < nePlace im + 64 = omega arith in
     sym (after4 (c .before) ∙ rw (lt-ltb (length im) (nePlace im + 64) h))
 
-second-requires : tie.Need-second-requires
-second-requires c κs = search needs
+ne-header-requires : tie.Need-ne-header-requires
+ne-header-requires c κs = search needs
 
 returns-6 : tie.Need-returns-6
 unfolding headerChecks
 returns-6 c =
-    c .second .ensures ∙ rw (c .before .before .before .dword .ensures) (sym (after5 (c .before)))
+    c .ne-header .ensures ∙ rw (c .before .before .before .dword .ensures) (sym (after5 (c .before)))
 
 pub read-spec : {M : Type 1} → statement M
 read-spec =
@@ -124,5 +124,5 @@ read-spec =
     returns-4
     add-if5
     returns-5
-    second-requires
+    ne-header-requires
     returns-6)

@@ -1,4 +1,4 @@
--- `header::second` meets its contract: each test is the check of the same place in the list.
+-- `header::ne_header` meets its contract: each test is the check of the same place in the list.
 -- Assumes nothing.
 use mathlib.Core.Path.{_≡_, sym, _∙_}
 use Prim.Native.Nat.{_≤_, _<_}
@@ -9,8 +9,8 @@ use Rattle.le.specs.Number.{wordAt}
 use Rattle.checks.proofs.Tests.{eq-not-eqb, ne-not-eqb}
 use Rattle.header.specs.Header.{fieldOf}
 use borrow.Author.Needs.{needs}
-use Rattle.header.proofs.second.Statement.{statement}
-use Rattle.header.proofs.second.Tie as tie
+use Rattle.header.proofs.ne_header.Statement.{statement}
+use Rattle.header.proofs.ne_header.Tie as tie
 
 word-requires : tie.Need-word-requires
 word-requires c κs = search needs
@@ -50,5 +50,5 @@ returns-3 c =
     let small : fieldOf im ne 0x32 ≤ 15 = omega arith in
     c .inside .ensures ∙ rw (c .before .tables .ensures, eq-not-eqb (wordAt im ne) 0x454e same, le-ltb 15 (fieldOf im ne 0x32) small)
 
-pub second-spec : {M : Type 1} → statement M
-second-spec = tie.close (tie.spec word-requires returns add-word word-requires-2 returns-2 tables-requires inside-requires returns-3)
+pub ne-header-spec : {M : Type 1} → statement M
+ne-header-spec = tie.close (tie.spec word-requires returns add-word word-requires-2 returns-2 tables-requires inside-requires returns-3)
