@@ -5,7 +5,7 @@ use mathlib.Core.List.{List, [], _∷_}
 use lib.ListN.{length}
 use lib.Dec.{ltb, leb}
 use Rattle.tables.specs.Table as tables
-use Rattle.tables.specs.Table.{Place, Step, Next, End, Stop, Table, Sound, Unsound}
+use Rattle.tables.specs.Table.{Place, Step, Next, End, Stop, Table}
 use Rattle.refusal.specs.declared.Refusal.{Refusal}
 use Rattle.refusal.specs.declared.Refusal.the-variants.{EntryTableEnds}
 use Rattle.bundle.specs.declared.Kind.the-variants.{Null}
