@@ -1,4 +1,4 @@
-# Builds the library, the command `ne` and what goes with them into build/, and installs them. `make help` says what there is.
+# Builds the library, the command `nemod` and what goes with them into build/, and installs them. `make help` says what there is.
 SHELL = bash
 .SHELLFLAGS = -euo pipefail -c
 .DELETE_ON_ERROR:
@@ -28,7 +28,7 @@ export NE_LIB_DIR
 endif
 ARCHIVE = $(or $(NE_LIB_DIR),target/staticlib)/libne.a
 
-all: $(BUILD)/libne.a $(BUILD)/libne.so $(BUILD)/ne $(BUILD)/ne.pc
+all: $(BUILD)/libne.a $(BUILD)/libne.so $(BUILD)/nemod $(BUILD)/ne.pc
 
 # rt and cargo know what has changed. A file that stays the same isn't touched, so nothing is made from it again.
 update = cmp -s $(1) $@ || cp $(1) $@
@@ -37,9 +37,9 @@ $(BUILD)/libne.a: FORCE | $(BUILD)
 	$(if $(NE_LIB_DIR),,rt staticlib ne)
 	@$(call update,$(ARCHIVE))
 
-$(BUILD)/ne: $(BUILD)/libne.a FORCE
-	. .ci/rust && cargo_in . build --package ne-cli --target-dir $(abspath $(BUILD))/cargo
-	@$(call update,$(BUILD)/cargo/release/ne)
+$(BUILD)/nemod: $(BUILD)/libne.a FORCE
+	. .ci/rust && cargo_in . build --package nemod --target-dir $(abspath $(BUILD))/cargo
+	@$(call update,$(BUILD)/cargo/release/nemod)
 
 # What is exported is what the header declares, and the library has to have it.
 $(BUILD)/ne.map: include/ne.h Makefile | $(BUILD)
@@ -67,9 +67,9 @@ $(BUILD):
 	mkdir -p $@
 
 try: all $(BUILD)/sample.drv
-	$(BUILD)/ne check $(BUILD)/sample.drv
-	$(BUILD)/ne list $(BUILD)/sample.drv
-	$(BUILD)/ne prepare $(BUILD)/sample.drv 2 --selectors 0x1000,0x1008 \
+	$(BUILD)/nemod check $(BUILD)/sample.drv
+	$(BUILD)/nemod list $(BUILD)/sample.drv
+	$(BUILD)/nemod prepare $(BUILD)/sample.drv 2 --selectors 0x1000,0x1008 \
 	    --answers 0,0,0xF0000003,0xF0000004 -o $(BUILD)/sample.2 --show
 
 test:
@@ -78,25 +78,25 @@ test:
 install: all
 	$(INSTALL) -d "$(DESTDIR)$(BINDIR)" "$(DESTDIR)$(LIBDIR)" "$(DESTDIR)$(INCLUDEDIR)" "$(DESTDIR)$(PKGCONFIGDIR)" \
 	    "$(DESTDIR)$(MANDIR)/man1"
-	$(INSTALL) -m 755 $(BUILD)/ne "$(DESTDIR)$(BINDIR)"
+	$(INSTALL) -m 755 $(BUILD)/nemod "$(DESTDIR)$(BINDIR)"
 	$(INSTALL) -m 644 $(BUILD)/libne.a "$(DESTDIR)$(LIBDIR)"
 	$(INSTALL) -m 755 $(BUILD)/$(SHARED) "$(DESTDIR)$(LIBDIR)"
 	ln -sf $(SHARED) "$(DESTDIR)$(LIBDIR)/$(SONAME)"
 	ln -sf $(SONAME) "$(DESTDIR)$(LIBDIR)/libne.so"
 	$(INSTALL) -m 644 include/ne.h "$(DESTDIR)$(INCLUDEDIR)"
 	$(INSTALL) -m 644 $(BUILD)/ne.pc "$(DESTDIR)$(PKGCONFIGDIR)"
-	$(INSTALL) -m 644 cli/ne.1 "$(DESTDIR)$(MANDIR)/man1"
+	$(INSTALL) -m 644 cli/nemod.1 "$(DESTDIR)$(MANDIR)/man1"
 
 uninstall:
-	rm -f "$(DESTDIR)$(BINDIR)/ne" "$(DESTDIR)$(LIBDIR)/libne.a" "$(DESTDIR)$(LIBDIR)/$(SHARED)" \
+	rm -f "$(DESTDIR)$(BINDIR)/nemod" "$(DESTDIR)$(LIBDIR)/libne.a" "$(DESTDIR)$(LIBDIR)/$(SHARED)" \
 	    "$(DESTDIR)$(LIBDIR)/$(SONAME)" "$(DESTDIR)$(LIBDIR)/libne.so" "$(DESTDIR)$(INCLUDEDIR)/ne.h" \
-	    "$(DESTDIR)$(PKGCONFIGDIR)/ne.pc" "$(DESTDIR)$(MANDIR)/man1/ne.1"
+	    "$(DESTDIR)$(PKGCONFIGDIR)/ne.pc" "$(DESTDIR)$(MANDIR)/man1/nemod.1"
 
 clean:
 	rm -rf $(BUILD)
 
 help:
-	@echo 'make             libne.a, libne.so, ne and ne.pc in build/; proves the library first'
+	@echo 'make             libne.a, libne.so, nemod and ne.pc in build/; proves the library first'
 	@echo 'make try         the same, then prepares a segment of a sample driver'
 	@echo 'make install     to PREFIX ($(PREFIX)), under DESTDIR; BINDIR, LIBDIR, INCLUDEDIR and MANDIR can be said too'
 	@echo 'make uninstall   removes what was installed there'

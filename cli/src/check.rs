@@ -1,4 +1,4 @@
-//! `ne check`: would uploads be accepted?
+//! `nemod check`: would uploads be accepted?
 
 mod json;
 mod report;

@@ -1,4 +1,4 @@
-//! `ne explain`: what a refusal means.
+//! `nemod explain`: what a refusal means.
 
 use crate::arguments::Arguments;
 use crate::failure::Failure;

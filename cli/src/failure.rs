@@ -15,15 +15,15 @@ pub struct Failure {
 
 impl Failure {
     pub fn new(message: impl Display) -> Self {
-        let lines = format!("ne: {message}\n");
+        let lines = format!("nemod: {message}\n");
         Failure { lines }
     }
 
     /// The command line is wrong.
     pub fn usage(command: Option<&Command>, message: impl Display) -> Self {
         let lines = match command.map(|command| command.name) {
-            Some(name) => format!("ne: {name}: {message}\nTry 'ne {name} --help'.\n"),
-            None => format!("ne: {message}\nTry 'ne --help'.\n"),
+            Some(name) => format!("nemod: {name}: {message}\nTry 'nemod {name} --help'.\n"),
+            None => format!("nemod: {message}\nTry 'nemod --help'.\n"),
         };
         Failure { lines }
     }

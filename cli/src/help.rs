@@ -13,18 +13,18 @@ to 3) and prepares their segments for loading. FILE is a module of at most
 16,777,216 bytes, or - for standard input. Numbers are decimal, or hexadecimal
 behind 0x.";
 const ENDING: &str = "\
-'ne COMMAND --help' says more of each; 'ne --version' gives the version.
+'nemod COMMAND --help' says more of each; 'nemod --version' gives the version.
 
 exit status:
   0 if all was accepted, 1 if something was refused, 2 if something could not be
   read or written or if the command line is wrong";
 
-/// `ne --help`.
+/// `nemod --help`.
 pub fn all(rest: impl Iterator<Item = OsString>, output: &mut Output) -> Result<Status, Failure> {
     nothing_more(rest)?;
     writeln!(
         output,
-        "usage: ne COMMAND ...\n\n{INTRODUCTION}\n\ncommands:"
+        "usage: nemod COMMAND ...\n\n{INTRODUCTION}\n\ncommands:"
     )?;
     for command in &COMMANDS {
         writeln!(output, "  {:<9} {}", command.name, command.summary)?;
@@ -33,11 +33,11 @@ pub fn all(rest: impl Iterator<Item = OsString>, output: &mut Output) -> Result<
     Ok(Status::Accepted)
 }
 
-/// `ne COMMAND --help`.
+/// `nemod COMMAND --help`.
 pub fn of(command: &Command, output: &mut Output) -> Result<Status, Failure> {
     writeln!(
         output,
-        "usage: ne {} {}\n\n{}\n\noptions:",
+        "usage: nemod {} {}\n\n{}\n\noptions:",
         command.name, command.usage, command.text
     )?;
     for option in command.options() {
@@ -50,13 +50,13 @@ pub fn of(command: &Command, output: &mut Output) -> Result<Status, Failure> {
     Ok(Status::Accepted)
 }
 
-/// `ne --version`.
+/// `nemod --version`.
 pub fn version(
     rest: impl Iterator<Item = OsString>,
     output: &mut Output,
 ) -> Result<Status, Failure> {
     nothing_more(rest)?;
-    writeln!(output, "ne {}", env!("CARGO_PKG_VERSION"))?;
+    writeln!(output, "nemod {}", env!("CARGO_PKG_VERSION"))?;
     Ok(Status::Accepted)
 }
 

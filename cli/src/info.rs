@@ -1,4 +1,4 @@
-//! `ne info`: a file's tables.
+//! `nemod info`: a file's tables.
 
 mod entries;
 mod header;

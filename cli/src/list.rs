@@ -1,4 +1,4 @@
-//! `ne list`: what the listing program writes.
+//! `nemod list`: what the listing program writes.
 
 use crate::arguments::Arguments;
 use crate::failure::Failure;

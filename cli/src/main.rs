@@ -1,4 +1,4 @@
-//! The command `ne`: checks, shows and prepares 16-bit Windows modules.
+//! The command `nemod`: checks, shows and prepares 16-bit Windows modules.
 
 #![forbid(unsafe_code)]
 

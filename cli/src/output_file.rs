@@ -77,7 +77,7 @@ fn create_beside(place: &Path) -> io::Result<(PathBuf, File)> {
     let mut options = OpenOptions::new();
     options.write(true).create_new(true);
     for number in 0..TRIES {
-        let name = format!(".ne-{}-{number}.tmp", process::id());
+        let name = format!(".nemod-{}-{number}.tmp", process::id());
         let temporary = place.with_file_name(name);
         match options.open(&temporary) {
             Ok(file) => return Ok((temporary, file)),

@@ -1,4 +1,4 @@
-//! `ne prepare`: a segment as it is loaded.
+//! `nemod prepare`: a segment as it is loaded.
 
 mod too_short;
 mod wanted;

@@ -10,7 +10,7 @@ use std::os::unix::fs::PermissionsExt;
 fn all_files_are_checked_and_the_worst_decides() {
     let folder = Folder::with_sample();
     folder.put("empty", b"");
-    let answer = folder.ne(&["check", "nowhere", "empty", "s.drv"]);
+    let answer = folder.nemod(&["check", "nowhere", "empty", "s.drv"]);
     let expected = Answer {
         status: Some(2),
         output: "empty: refused 1: the file has under 64 bytes
@@ -20,25 +20,25 @@ s.drv: 2 segments
 3 files: 1 accepted, 1 refused, 1 not read
 "
         .to_string(),
-        errors: "ne: nowhere: No such file or directory (os error 2)\n".to_string(),
+        errors: "nemod: nowhere: No such file or directory (os error 2)\n".to_string(),
     };
     assert_eq!(answer, expected);
-    assert_eq!(folder.ne(&["check", "s.drv", "empty"]).status, Some(1));
-    assert_eq!(folder.ne(&["check", "empty", "s.drv"]).status, Some(1));
-    assert_eq!(folder.ne(&["check", "s.drv", "s.drv"]).status, Some(0));
+    assert_eq!(folder.nemod(&["check", "s.drv", "empty"]).status, Some(1));
+    assert_eq!(folder.nemod(&["check", "empty", "s.drv"]).status, Some(1));
+    assert_eq!(folder.nemod(&["check", "s.drv", "s.drv"]).status, Some(0));
 }
 
 /// One file that is not read, for this reason.
 #[track_caller]
 fn not_read(folder: &Folder, file: &str, reason: &str) {
-    let message = format!("ne: {file}: {reason}\n");
+    let message = format!("nemod: {file}: {reason}\n");
     let expected = Answer {
         output: "1 file: 0 accepted, 0 refused, 1 not read\n".to_string(),
         ..fails(&message)
     };
-    assert_eq!(folder.ne(&["check", file]), expected);
+    assert_eq!(folder.nemod(&["check", file]), expected);
     for command in ["info", "list"] {
-        assert_eq!(folder.ne(&[command, file]), fails(&message));
+        assert_eq!(folder.nemod(&[command, file]), fails(&message));
     }
 }
 
@@ -59,7 +59,7 @@ fn a_file_without_permission() {
     fs::set_permissions(&path, Permissions::from_mode(0o000)).expect("permissions");
     match File::open(&path) {
         Err(_) => not_read(&folder, "s.drv", "Permission denied (os error 13)"),
-        Ok(_) => assert_eq!(folder.ne(&["check", "s.drv"]).status, Some(0)),
+        Ok(_) => assert_eq!(folder.nemod(&["check", "s.drv"]).status, Some(0)),
     }
 }
 
@@ -79,8 +79,8 @@ caf\\xC3\\xA9\\xFF: refused 1: the file has under 64 bytes
 --json: refused 1: the file has under 64 bytes
 3 files: 0 accepted, 3 refused, 0 not read
 ";
-    assert_eq!(folder.ne(&arguments), says(1, expected));
+    assert_eq!(folder.nemod(&arguments), says(1, expected));
     let missing = OsStr::from_bytes(b"\x07\xFF");
-    let message = "ne: \\x07\\xFF: No such file or directory (os error 2)\n";
-    assert_eq!(folder.ne(&[OsStr::new("list"), missing]), fails(message));
+    let message = "nemod: \\x07\\xFF: No such file or directory (os error 2)\n";
+    assert_eq!(folder.nemod(&[OsStr::new("list"), missing]), fails(message));
 }

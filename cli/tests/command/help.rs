@@ -10,21 +10,21 @@ pub const COMMANDS: [&str; 10] = [
 #[test]
 fn all_commands_are_in_the_help() {
     let folder = Folder::new();
-    let answer = folder.ne(&["--help"]);
+    let answer = folder.nemod(&["--help"]);
     assert_eq!((answer.status, answer.errors.as_str()), (Some(0), ""));
-    assert!(answer.output.starts_with("usage: ne COMMAND ...\n"));
+    assert!(answer.output.starts_with("usage: nemod COMMAND ...\n"));
     let lines = answer.output.lines();
     let lines = lines.skip_while(|line| *line != "commands:").skip(1);
     let lines = lines.take_while(|line| !line.is_empty());
     let listed = lines.filter_map(|line| line.strip_prefix("  ")?.split(' ').next());
     assert!(listed.eq(COMMANDS), "{}", answer.output);
     assert!(answer.output.lines().all(|line| line.len() <= 80));
-    assert_eq!(folder.ne(&["-h"]), answer);
+    assert_eq!(folder.nemod(&["-h"]), answer);
 }
 
 #[test]
 fn help_of_a_command() {
-    let expected = "usage: ne name FILE (NAME | --number N)
+    let expected = "usage: nemod name FILE (NAME | --number N)
 
 Shows a name's number, text, ordinal and place. NAME is compared byte by byte,
 and case matters; the first string of each of the two lists is found by its
@@ -34,7 +34,7 @@ options:
   --number N        The name of this number; resident names come first.
   --help            This help.
 ";
-    assert_eq!(Folder::new().ne(&["name", "--help"]), says(0, expected));
+    assert_eq!(Folder::new().nemod(&["name", "--help"]), says(0, expected));
 }
 
 /// Help needs no operands, and wins over wrong ones.
@@ -42,21 +42,21 @@ options:
 fn each_command_has_help() {
     let folder = Folder::new();
     for command in COMMANDS {
-        let answer = folder.ne(&[command, "--help"]);
+        let answer = folder.nemod(&[command, "--help"]);
         assert_eq!((answer.status, answer.errors.as_str()), (Some(0), ""));
-        let usage = format!("usage: ne {command} ");
+        let usage = format!("usage: nemod {command} ");
         assert!(answer.output.starts_with(&usage), "{}", answer.output);
         let longest = answer.output.lines().map(str::len).max();
         assert!(longest <= Some(80), "{}", answer.output);
         let own = "  --help            This help.\n";
         assert!(answer.output.ends_with(own), "{}", answer.output);
-        assert_eq!(folder.ne(&[command, "-h"]), answer);
-        assert_eq!(folder.ne(&[command, "1", "2", "3", "4", "--help"]), answer);
+        assert_eq!(folder.nemod(&[command, "-h"]), answer);
+        assert_eq!(folder.nemod(&[command, "1", "2", "3", "4", "--help"]), answer);
     }
 }
 
 #[test]
 fn version() {
-    let expected = format!("ne {}\n", env!("CARGO_PKG_VERSION"));
-    assert_eq!(Folder::new().ne(&["--version"]), says(0, &expected));
+    let expected = format!("nemod {}\n", env!("CARGO_PKG_VERSION"));
+    assert_eq!(Folder::new().nemod(&["--version"]), says(0, &expected));
 }

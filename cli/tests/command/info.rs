@@ -1,4 +1,4 @@
-//! `ne info`: the tables of sound and of damaged files.
+//! `nemod info`: the tables of sound and of damaged files.
 
 mod long;
 
@@ -48,8 +48,8 @@ Resources
 #[test]
 fn sample() {
     let folder = Folder::with_sample();
-    assert_eq!(folder.ne(&["info", "s.drv"]), says(0, SAMPLE));
-    assert_eq!(folder.ne(&["info", "--all", "s.drv"]), says(0, SAMPLE));
+    assert_eq!(folder.nemod(&["info", "s.drv"]), says(0, SAMPLE));
+    assert_eq!(folder.nemod(&["info", "--all", "s.drv"]), says(0, SAMPLE));
 }
 
 #[test]
@@ -57,17 +57,17 @@ fn header_is_refused() {
     let folder = Folder::new();
     folder.put("bad", &[0; 64]);
     let expected = "bad: refused 3: no MZ at the start\n";
-    assert_eq!(folder.ne(&["info", "bad"]), says(1, expected));
+    assert_eq!(folder.nemod(&["info", "bad"]), says(1, expected));
     folder.put("empty", b"");
     let expected = "empty: refused 1: the file has under 64 bytes\n";
-    assert_eq!(folder.ne(&["info", "empty"]), says(1, expected));
+    assert_eq!(folder.nemod(&["info", "empty"]), says(1, expected));
 }
 
 /// The sections of an image, without the header's.
 fn sections(image: &[u8], options: &[&str]) -> (Option<i32>, String) {
     let folder = Folder::new();
     folder.put("file", image);
-    let answer = folder.ne(&[&["info", "file"], options].concat());
+    let answer = folder.nemod(&[&["info", "file"], options].concat());
     assert_eq!(answer.errors, "");
     let start = answer.output.find("\nSegments\n").expect("a section");
     (answer.status, answer.output[start..].to_string())

@@ -1,4 +1,4 @@
-//! `ne check --json`.
+//! `nemod check --json`.
 
 use crate::module::{put_word, Module, SEGMENTS};
 use crate::run::{says, Answer, Folder};
@@ -15,8 +15,8 @@ const ACCEPTED: &str = concat!(
 #[test]
 fn accepted() {
     let folder = Folder::with_sample();
-    assert_eq!(folder.ne(&["check", "--json", "s.drv"]), says(0, ACCEPTED));
-    assert_eq!(folder.ne(&["check", "s.drv", "--json"]), says(0, ACCEPTED));
+    assert_eq!(folder.nemod(&["check", "--json", "s.drv"]), says(0, ACCEPTED));
+    assert_eq!(folder.nemod(&["check", "s.drv", "--json"]), says(0, ACCEPTED));
 }
 
 #[test]
@@ -24,7 +24,7 @@ fn no_segments() {
     let folder = Folder::new();
     folder.put("none", &Module::default().image());
     let expected = r#"{"file":"none","status":"accepted","unchecked":0,"segments":[]}"#;
-    let answer = folder.ne(&["check", "--json", "none"]);
+    let answer = folder.nemod(&["check", "--json", "none"]);
     assert_eq!(answer, says(0, &format!("{expected}\n")));
 }
 
@@ -36,7 +36,7 @@ fn header_is_refused() {
         r#"{"file":"bad","status":"refused","refusal":3,"text":"no MZ at the start"}"#,
         "\n"
     );
-    assert_eq!(folder.ne(&["check", "--json", "bad"]), says(1, expected));
+    assert_eq!(folder.nemod(&["check", "--json", "bad"]), says(1, expected));
 }
 
 /// The file's own refusal is that of its first bad segment.
@@ -58,7 +58,7 @@ fn segments_are_refused() {
         r#"{"segment":3,"status":"refused","refusal":10,"text":"the segment is iterated"}]}"#,
         "\n"
     );
-    assert_eq!(folder.ne(&["check", "--json", "bad"]), says(1, expected));
+    assert_eq!(folder.nemod(&["check", "--json", "bad"]), says(1, expected));
 }
 
 /// A line for each file, one that is not read included, and no summary.
@@ -73,10 +73,10 @@ fn several_files() {
     let expected = Answer {
         status: Some(2),
         output: format!("{unread}{ACCEPTED}"),
-        errors: "ne: nowhere: No such file or directory (os error 2)\n".to_string(),
+        errors: "nemod: nowhere: No such file or directory (os error 2)\n".to_string(),
     };
     assert_eq!(
-        folder.ne(&["check", "--json", "nowhere", "s.drv"]),
+        folder.nemod(&["check", "--json", "nowhere", "s.drv"]),
         expected
     );
 }
@@ -96,5 +96,5 @@ fn names_of_files() {
     let first = r#"{"file":"a\"\\\u000A\u001B\u007F\u009B \u00E9\u2028\uD83D\uDCBE","#;
     let second = r#"{"file":"caf\u00E9\uFFFD","file_hex":"636166C3A9FF","#;
     let expected = format!("{first}{refused}\n{second}{refused}\n");
-    assert_eq!(folder.ne(&arguments), says(1, &expected));
+    assert_eq!(folder.nemod(&arguments), says(1, &expected));
 }

@@ -19,10 +19,10 @@ fn an_image_of_16_mebibytes_and_one_byte_more() {
 longer: refused 2: the file has over 16,777,216 bytes
 2 files: 1 accepted, 1 refused, 0 not read
 ";
-    let answer = folder.ne(&["check", "long", "longer"]);
+    let answer = folder.nemod(&["check", "long", "longer"]);
     assert_eq!(answer, says(1, expected));
     let refused = "refused 2: the file has over 16,777,216 bytes\n";
-    assert_eq!(folder.ne(&["segment", "longer", "1"]), says(1, refused));
+    assert_eq!(folder.nemod(&["segment", "longer", "1"]), says(1, refused));
 }
 
 #[test]
@@ -40,7 +40,7 @@ fn as_many_segments_as_there_can_be() {
     // The resident names' place does not fit its word, and is not looked at.
     image[128 + 8 * 65_534 + 4] = 8;
     folder.put("many", &image);
-    let answer = folder.ne(&["check", "many"]);
+    let answer = folder.nemod(&["check", "many"]);
     assert_eq!(answer.status, Some(1));
     let lines: Vec<&str> = answer.output.lines().collect();
     assert_eq!(lines.len(), 65_537);
@@ -82,8 +82,8 @@ fn the_most_work() {
     let folder = Folder::new();
     folder.put("most", &heavy(HEAVY));
     folder.put("more", &heavy(HEAVY + 1));
-    assert_eq!(folder.ne(&["check", "most"]).status, Some(0));
-    let answer = folder.ne(&["check", "more"]);
+    assert_eq!(folder.nemod(&["check", "most"]).status, Some(0));
+    let answer = folder.nemod(&["check", "more"]);
     let line = |number| format!("  segment {number}: accepted, 0 sites, 1 of 1 byte\n");
     let lines: String = (1..=HEAVY).map(line).collect();
     let expected = Answer {
@@ -96,7 +96,7 @@ fn the_most_work() {
         ..fails("")
     };
     assert_eq!(answer, expected);
-    assert_eq!(folder.ne(&["check", "more", "--all"]).status, Some(0));
+    assert_eq!(folder.nemod(&["check", "more", "--all"]).status, Some(0));
 }
 
 #[test]
@@ -106,7 +106,7 @@ fn the_most_work_in_json() {
     folder.put("sound", &image);
     image[128 + 4] = 8; // the first segment is iterated
     folder.put("bad", &image);
-    let answer = folder.ne(&["check", "--json", "sound", "bad"]);
+    let answer = folder.nemod(&["check", "--json", "sound", "bad"]);
     assert_eq!(answer.status, Some(2));
     let lines: Vec<&str> = answer.output.lines().collect();
     let sound = r#"{"file":"sound","status":"unfinished","unchecked":2,"segments":[{"#;

@@ -1,4 +1,4 @@
-//! `ne list`: the lines of the listing program.
+//! `nemod list`: the lines of the listing program.
 
 use crate::module::{put_word, Module, NE};
 use crate::run::{says, Folder};
@@ -12,7 +12,7 @@ fn expect(length: usize, status: i32, text: &str) {
     let mut image = Module::sample().image();
     image.resize(length, 0);
     folder.put("file", &image);
-    assert_eq!(folder.ne(&["list", "file"]), says(status, text));
+    assert_eq!(folder.nemod(&["list", "file"]), says(status, text));
 }
 
 #[test]
@@ -30,7 +30,7 @@ fn lengths() {
 fn no_entry_points() {
     let folder = Folder::new();
     folder.put("file", &Module::default().image());
-    assert_eq!(folder.ne(&["list", "file"]), says(0, "ordinals 0\nend\n"));
+    assert_eq!(folder.nemod(&["list", "file"]), says(0, "ordinals 0\nend\n"));
 }
 
 #[test]
@@ -39,5 +39,5 @@ fn entry_table_is_refused() {
     let mut image = Module::sample().image();
     put_word(&mut image, NE + 0x06, 15);
     folder.put("file", &image);
-    assert_eq!(folder.ne(&["list", "file"]), says(1, "refused 12\n"));
+    assert_eq!(folder.nemod(&["list", "file"]), says(1, "refused 12\n"));
 }

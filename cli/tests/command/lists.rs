@@ -1,4 +1,4 @@
-//! The lists of `ne prepare`.
+//! The lists of `nemod prepare`.
 
 use crate::module::{Module, Segment};
 use crate::run::{fails, says, Answer, Folder};
@@ -26,7 +26,7 @@ fn prepare(selectors: &str, answers: &str) -> Answer {
     folder.put("words", b"1 \x1B[2J");
     folder.put("long", &[b' '; 16_777_217]);
     let lists = ["--selectors", selectors, "--answers", answers];
-    folder.ne(&[&["prepare", "s.drv", "2", "--show"], &lists[..]].concat())
+    folder.nemod(&[&["prepare", "s.drv", "2", "--show"], &lists[..]].concat())
 }
 
 #[test]
@@ -53,7 +53,7 @@ fn files() {
 /// The message about an option's value.
 #[track_caller]
 fn wrong(selectors: &str, answers: &str, message: &str) {
-    let expected = format!("ne: prepare: {message}\nTry 'ne prepare --help'.\n");
+    let expected = format!("nemod: prepare: {message}\nTry 'nemod prepare --help'.\n");
     assert_eq!(prepare(selectors, answers), fails(&expected));
 }
 
@@ -91,29 +91,29 @@ fn missing_numbers() {
 
 #[test]
 fn files_that_are_no_lists() {
-    let missing = "ne: nowhere: No such file or directory (os error 2)\n";
+    let missing = "nemod: nowhere: No such file or directory (os error 2)\n";
     assert_eq!(prepare("1,2", "@nowhere"), fails(missing));
-    let nameless = "ne: : No such file or directory (os error 2)\n";
+    let nameless = "nemod: : No such file or directory (os error 2)\n";
     assert_eq!(prepare("1,2", "@"), fails(nameless));
     assert_eq!(
         prepare("@.", "1"),
-        fails("ne: .: Is a directory (os error 21)\n")
+        fails("nemod: .: Is a directory (os error 21)\n")
     );
-    let long = "ne: long: too long for a list\n";
+    let long = "nemod: long: too long for a list\n";
     assert_eq!(prepare("@long", "1"), fails(long));
-    let endless = "ne: /dev/zero: too long for a list\n";
+    let endless = "nemod: /dev/zero: too long for a list\n";
     assert_eq!(prepare("@/dev/zero", "1"), fails(endless));
 }
 
 #[test]
 fn too_short() {
     let selectors =
-        format!("ne: prepare: --selectors needs 2 numbers and has 1: {NEEDS_SELECTORS}");
-    let answers = format!("ne: prepare: --answers needs 2 numbers and has 1: {NEEDS_ANSWERS}");
+        format!("nemod: prepare: --selectors needs 2 numbers and has 1: {NEEDS_SELECTORS}");
+    let answers = format!("nemod: prepare: --answers needs 2 numbers and has 1: {NEEDS_ANSWERS}");
     assert_eq!(prepare("1", "1,2"), fails(&selectors));
     assert_eq!(prepare("1,2", "1"), fails(&answers));
     assert_eq!(prepare("1", "1"), fails(&format!("{selectors}{answers}")));
-    let none = format!("ne: prepare: --answers needs 2 numbers and has 0: {NEEDS_ANSWERS}");
+    let none = format!("nemod: prepare: --answers needs 2 numbers and has 0: {NEEDS_ANSWERS}");
     assert_eq!(prepare("1,2", ""), fails(&none));
     assert_eq!(prepare("1,2", "@none"), fails(&none));
 }
@@ -135,8 +135,8 @@ fn left_out() {
 * changed by a fixup, + in a fixup's span and as stored
 0 sites
 ";
-    let answer = folder.ne(&["prepare", "s.drv", "1", "--show", "--selectors", "7"]);
+    let answer = folder.nemod(&["prepare", "s.drv", "1", "--show", "--selectors", "7"]);
     assert_eq!(answer, says(0, shown));
-    let one = format!("ne: prepare: --selectors needs 1 number and has 0: {NEEDS_SELECTORS}");
-    assert_eq!(folder.ne(&["prepare", "s.drv", "1", "--show"]), fails(&one));
+    let one = format!("nemod: prepare: --selectors needs 1 number and has 0: {NEEDS_SELECTORS}");
+    assert_eq!(folder.nemod(&["prepare", "s.drv", "1", "--show"]), fails(&one));
 }

@@ -7,7 +7,7 @@ use std::process::Command;
 
 /// The page, with plain hyphens.
 fn page() -> String {
-    let path = Path::new(env!("CARGO_MANIFEST_DIR")).join("ne.1");
+    let path = Path::new(env!("CARGO_MANIFEST_DIR")).join("nemod.1");
     let text = std::fs::read_to_string(path).expect("a manual page");
     text.replace("\\-", "-")
 }
@@ -20,15 +20,15 @@ fn every_command_has_a_synopsis_and_a_section() {
         .filter(|line| line.starts_with(".SS"))
         .collect();
     for command in COMMANDS {
-        let synopsis = format!("\n.B ne {command}\n");
+        let synopsis = format!("\n.B nemod {command}\n");
         assert!(page.contains(&synopsis), "{command}");
-        assert!(sections.contains(&format!("ne {command}")), "{command}");
+        assert!(sections.contains(&format!("nemod {command}")), "{command}");
     }
 }
 
 /// All options of all help texts, each with what it is called there.
 fn options(folder: &Folder) -> Vec<String> {
-    let help = |command: &&str| folder.ne(&[command, "--help"]).output;
+    let help = |command: &&str| folder.nemod(&[command, "--help"]).output;
     let texts: String = COMMANDS.iter().map(help).collect();
     let option = |line: &str| {
         let name = line.strip_prefix("  -")?.split(' ').next()?;
@@ -67,13 +67,13 @@ fn the_version_is_the_same() {
     let title = format!("\"Parchgable {}\"", env!("CARGO_PKG_VERSION"));
     let page = page();
     let first = page.lines().next().expect("a title");
-    assert!(first.starts_with(".TH NE 1 ") && first.contains(&title));
+    assert!(first.starts_with(".TH NEMOD 1 ") && first.contains(&title));
 }
 
 /// Where there is a `man`, it has nothing to say against the page.
 #[test]
 fn the_page_has_no_warnings() {
-    let page = Path::new(env!("CARGO_MANIFEST_DIR")).join("ne.1");
+    let page = Path::new(env!("CARGO_MANIFEST_DIR")).join("nemod.1");
     let mut man = Command::new("man");
     man.args(["--warnings", "--local-file"]).arg(page);
     let Ok(output) = man.env("LC_ALL", "C.UTF-8").env("MANWIDTH", "100").output() else {

@@ -1,4 +1,4 @@
-//! `ne prepare -o`: the file is there whole or is as it was.
+//! `nemod prepare -o`: the file is there whole or is as it was.
 
 use crate::module::Module;
 use crate::run::{fails, says, Answer, Folder};
@@ -10,7 +10,7 @@ const PREPARED: [u8; 10] = [0, 0, 0x34, 0x12, 0xAA, 0xBB, 0x34, 0x12, 0, 0];
 
 fn prepare(folder: &Folder, number: &str, options: &[&str]) -> Answer {
     let lists = ["--selectors", "1,2", "--answers", "3,4"];
-    folder.ne(&[&["prepare", "s.drv", number], options, &lists].concat())
+    folder.nemod(&[&["prepare", "s.drv", number], options, &lists].concat())
 }
 
 #[test]
@@ -81,7 +81,7 @@ fn kept_when_refused() {
     folder.put("out", b"kept");
     let refused = says(1, "refused 25 at record 2: span meets an earlier one\n");
     assert_eq!(prepare(&folder, "2", &["-o", "out"]), refused);
-    let short = folder.ne(&["prepare", "s.drv", "1", "-o", "out"]);
+    let short = folder.nemod(&["prepare", "s.drv", "1", "-o", "out"]);
     assert_eq!(short.status, Some(2));
     assert_eq!(folder.get("out"), b"kept");
     assert_eq!(folder.names(), ["out", "s.drv"]);
@@ -100,7 +100,7 @@ fn kept_when_standard_output_is_full() {
         .args(["--answers", "1"])
         .stdout(full.expect("a device"));
     let answer: Answer = command.output().expect("a command that runs").into();
-    let message = "ne: standard output: No space left on device (os error 28)\n";
+    let message = "nemod: standard output: No space left on device (os error 28)\n";
     assert_eq!(answer, fails(message));
     assert_eq!(folder.get("out"), b"kept");
     assert_eq!(folder.names(), ["out", "s.drv"]);
@@ -113,15 +113,15 @@ fn places_that_cannot_be_written() {
     let made = Command::new("mkfifo").arg(folder.path("fifo")).status();
     assert!(made.expect("a command that runs").success());
     let to = |place: &str| prepare(&folder, "1", &["-o", place]);
-    let missing = "ne: nowhere/out: No such file or directory (os error 2)\n";
+    let missing = "nemod: nowhere/out: No such file or directory (os error 2)\n";
     assert_eq!(to("nowhere/out"), fails(missing));
-    let below = "ne: s.drv/out: Not a directory (os error 20)\n";
+    let below = "nemod: s.drv/out: Not a directory (os error 20)\n";
     assert_eq!(to("s.drv/out"), fails(below));
-    assert_eq!(to("folder"), fails("ne: folder: not a regular file\n"));
-    assert_eq!(to("fifo"), fails("ne: fifo: not a regular file\n"));
+    assert_eq!(to("folder"), fails("nemod: folder: not a regular file\n"));
+    assert_eq!(to("fifo"), fails("nemod: fifo: not a regular file\n"));
     assert_eq!(
         to(""),
-        fails("ne: : No such file or directory (os error 2)\n")
+        fails("nemod: : No such file or directory (os error 2)\n")
     );
     assert_eq!(folder.names(), ["fifo", "folder", "s.drv"]);
 }

@@ -1,4 +1,4 @@
-//! `ne prepare`: what it writes to standard output and what it refuses.
+//! `nemod prepare`: what it writes to standard output and what it refuses.
 
 use crate::module::{put_word, Module, Segment, SEGMENTS};
 use crate::run::{fails, says, Answer, Folder};
@@ -7,7 +7,7 @@ const LISTS: [&str; 4] = ["--selectors", "1,2", "--answers", "0x40000003,5"];
 
 /// Prepares a segment of the sample with the lists.
 fn prepare(folder: &Folder, number: &str, options: &[&str]) -> Answer {
-    folder.ne(&[&["prepare", "s.drv", number], options, &LISTS].concat())
+    folder.nemod(&[&["prepare", "s.drv", number], options, &LISTS].concat())
 }
 
 #[test]
@@ -77,7 +77,7 @@ fn refused() {
     assert_eq!(prepare(&folder, "2", &["--show"]), says(1, line));
     let expected = Answer {
         status: Some(1),
-        ..fails(&format!("ne: {line}"))
+        ..fails(&format!("nemod: {line}"))
     };
     assert_eq!(prepare(&folder, "2", &["-o", "-"]), expected);
     let number = says(1, "refused 8: no such number\n");
@@ -91,17 +91,17 @@ fn refused() {
 #[test]
 fn file_is_not_read() {
     let folder = Folder::new();
-    let expected = fails("ne: s.drv: No such file or directory (os error 2)\n");
+    let expected = fails("nemod: s.drv: No such file or directory (os error 2)\n");
     assert_eq!(prepare(&folder, "1", &["--show"]), expected);
 }
 
 #[test]
 fn where_to_is_not_said() {
     let folder = Folder::with_sample();
-    let nowhere = "ne: prepare: give -o, --show or both\nTry 'ne prepare --help'.\n";
+    let nowhere = "nemod: prepare: give -o, --show or both\nTry 'nemod prepare --help'.\n";
     assert_eq!(prepare(&folder, "1", &[]), fails(nowhere));
-    let both = "ne: prepare: -o - and --show both write to standard output
-Try 'ne prepare --help'.
+    let both = "nemod: prepare: -o - and --show both write to standard output
+Try 'nemod prepare --help'.
 ";
     assert_eq!(prepare(&folder, "1", &["-o", "-", "--show"]), fails(both));
 }

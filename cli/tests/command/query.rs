@@ -8,7 +8,7 @@ use crate::run::{says, Folder};
 fn expect(arguments: &[&str], status: i32, line: &str) {
     let folder = Folder::with_sample();
     let expected = says(status, &format!("{line}\n"));
-    assert_eq!(folder.ne(arguments), expected);
+    assert_eq!(folder.nemod(arguments), expected);
 }
 
 #[test]
@@ -76,7 +76,7 @@ fn damaged(change: impl Fn(&mut [u8]), arguments: &[&str], line: &str) {
     change(&mut image);
     folder.put("bad", &image);
     let expected = says(1, &format!("{line}\n"));
-    assert_eq!(folder.ne(arguments), expected);
+    assert_eq!(folder.nemod(arguments), expected);
 }
 
 #[test]
@@ -113,8 +113,8 @@ fn bytes_of_names() {
     };
     folder.put("file", &module.image());
     let name = "name 2: \\x1B[2J\\\\\\xE9, ordinal 1, text at 133\n";
-    let answer = folder.ne(&["name", "file", "--number", "2"]);
+    let answer = folder.nemod(&["name", "file", "--number", "2"]);
     assert_eq!(answer, says(0, name));
     let module = "module 1: A\\x07B, text at 145\n";
-    assert_eq!(folder.ne(&["module", "file", "1"]), says(0, module));
+    assert_eq!(folder.nemod(&["module", "file", "1"]), says(0, module));
 }

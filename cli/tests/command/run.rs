@@ -54,7 +54,7 @@ impl Folder {
     pub fn new() -> Folder {
         static COUNT: AtomicU32 = AtomicU32::new(0);
         let number = COUNT.fetch_add(1, Ordering::Relaxed);
-        let name = format!("ne-{}-{number}", process::id());
+        let name = format!("nemod-{}-{number}", process::id());
         let path = Path::new(env!("CARGO_TARGET_TMPDIR")).join(name);
         fs::create_dir(&path).expect("a new folder");
         Folder { path }
@@ -90,14 +90,14 @@ impl Folder {
 
     /// The command with these arguments, ready to run.
     pub fn command<T: AsRef<OsStr>>(&self, arguments: &[T]) -> Command {
-        let mut command = Command::new(env!("CARGO_BIN_EXE_ne"));
+        let mut command = Command::new(env!("CARGO_BIN_EXE_nemod"));
         command.args(arguments).current_dir(&self.path);
         command.stdin(Stdio::null());
         command
     }
 
     /// Runs the command.
-    pub fn ne<T: AsRef<OsStr>>(&self, arguments: &[T]) -> Answer {
+    pub fn nemod<T: AsRef<OsStr>>(&self, arguments: &[T]) -> Answer {
         let output = self.command(arguments).output();
         output.expect("a command that runs").into()
     }

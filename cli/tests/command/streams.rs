@@ -40,7 +40,7 @@ fn standard_input_without_bytes() {
     let expected = "-: refused 1: the file has under 64 bytes
 1 file: 0 accepted, 1 refused, 0 not read
 ";
-    assert_eq!(folder.ne(&["check", "-"]), says(1, expected));
+    assert_eq!(folder.nemod(&["check", "-"]), says(1, expected));
 }
 
 /// It is read in as many pieces as it comes.
@@ -72,7 +72,7 @@ fn endless_standard_input() {
     let listed = answer(folder.command(&["list", "-"]).stdin(zeros()));
     assert_eq!(listed, says(1, "too long\n"));
     let expected = "/dev/zero: refused 2: the file has over 16,777,216 bytes\n";
-    assert_eq!(folder.ne(&["info", "/dev/zero"]), says(1, expected));
+    assert_eq!(folder.nemod(&["info", "/dev/zero"]), says(1, expected));
 }
 
 /// Whoever closes the pipe is told nothing. The command waits for its input, so
@@ -101,7 +101,7 @@ fn closed_output() {
 #[test]
 fn full_output() {
     let folder = Folder::with_sample();
-    let message = "ne: standard output: No space left on device (os error 28)\n";
+    let message = "nemod: standard output: No space left on device (os error 28)\n";
     let all = [
         &["--help"][..],
         &["--version"],

@@ -5,8 +5,8 @@ use crate::run::{fails, Folder};
 /// Expects a message and the hint behind it.
 #[track_caller]
 fn wrong(arguments: &[&str], message: &str, hint: &str) {
-    let expected = format!("ne: {message}\nTry 'ne {hint}'.\n");
-    assert_eq!(Folder::with_sample().ne(arguments), fails(&expected));
+    let expected = format!("nemod: {message}\nTry 'nemod {hint}'.\n");
+    assert_eq!(Folder::with_sample().nemod(arguments), fails(&expected));
 }
 
 #[test]
