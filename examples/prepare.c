@@ -22,8 +22,11 @@ static int prepare(size_t length, uint32_t number)
     struct ne_segment_result segment = ne_segment(image, length, number);
     struct ne_prepare_result prepared = ne_prepare(image, length, number, selectors, header.segments, answers,
                                                    segment.records, output, segment.allocation, marks, segment.stored);
-    if (prepared.refusal != 0) {
-        fprintf(stderr, "refused %u at record %u\n", (unsigned)prepared.refusal, (unsigned)prepared.record);
+    if (prepared.refusal != NE_ACCEPTED) {
+        fprintf(stderr, "refused %u", (unsigned)prepared.refusal);
+        if (prepared.record != 0)
+            fprintf(stderr, " at record %u", (unsigned)prepared.record);
+        fprintf(stderr, ": %s\n", ne_refusal_text(prepared.refusal));
         return 1;
     }
     fwrite(output, 1, segment.allocation, stdout);

@@ -9,43 +9,165 @@
  * list and lent room are a pointer and a length too, in elements. The pointer to an empty one may be anything. Places are
  * counted from the file's start.
  *
- * A result's `refusal` is 0 if the request was accepted. Otherwise it is the number of the first check that failed, and
- * every other field is 0, but for the `record` of refusals 22 to 26:
- *
- *      1  the image has under 64 bytes
- *      2  the image has over 16,777,216 bytes
- *      3  it does not start with "MZ"
- *      4  the NE header does not start at 64 or later, or its 64 bytes do not lie in the image
- *      5  the NE header does not start with "NE"
- *      6  the alignment shift is over 15
- *      7  the segment, module, entry or nonresident names table leaves the image
- *      8  the number asked for is 0 or above the count
- *      9  the segment's stored bytes or its record list leave the image, or it has records and no stored bytes
- *     10  the segment is iterated
- *     11  the segment's allocation is under its stored length
- *     12  the entry table ends inside a bundle or has no end byte
- *     13  an entry's segment is not in the segment table, or a movable entry has no CDh 3Fh
- *     14  the entry table has over 65,535 ordinals
- *     15  the ordinal asked for is not covered by the entry table, or is null
- *     16  a name list does not end inside the image or inside its byte count, or a module's string is empty or leaves the
- *         image
- *     17  the name asked for is not found
- *     18  the resource table leaves the image, or its shift is over 15
- *     19  the resource asked for is not found
- *     20  the data of the resource that was found leaves the image
- *     21  there are fewer selectors than segments, fewer answers than records, less output than the allocation, or fewer
- *         marks than stored bytes
- *     22  a fixup's type is not 0, 2, 3 or 5
- *     23  a fixup's target does not resolve
- *     24  a fixup's span lies outside the stored bytes
- *     25  a fixup's span meets an earlier one
- *     26  over 65,536 sites were followed; never given, since that many spans that do not meet have no room
+ * A result's `refusal` is 0 if the request was accepted. Otherwise it is the number of the first check that failed, as
+ * `enum ne_refusal` has them, and every other field is 0, but for the `record` of refusals 22 to 26.
  */
 #ifndef NE_H
 #define NE_H
 
 #include <stddef.h>
 #include <stdint.h>
+
+/* What follows is written by include/refusals, from Cargo.toml and wrapper/src/refusal/table.rs. */
+
+/* The version of the library that this header belongs to. */
+#define NE_VERSION "0.1.0"
+#define NE_VERSION_MAJOR 0
+#define NE_VERSION_MINOR 1
+#define NE_VERSION_PATCH 0
+
+/*
+ * What a result's `refusal` can be: each with its meaning before it, and after it the text that ne_refusal_text
+ * gives. Both call the image the file. The numbers may have gaps, and a later version may have more of them.
+ */
+enum ne_refusal {
+    NE_ACCEPTED = 0,
+
+    /* A module starts with an MZ header of 64 bytes, and the file is shorter than that. */
+    NE_REFUSED_IMAGE_TOO_SHORT = 1, /* the file has under 64 bytes */
+
+    /* The file is longer than the longest that is read, 16 MiB. */
+    NE_REFUSED_IMAGE_TOO_LONG = 2, /* the file has over 16,777,216 bytes */
+
+    /* The first two bytes of a module are the letters MZ. */
+    NE_REFUSED_NO_MZ = 3, /* no MZ at the start */
+
+    /*
+     * The double word at 3Ch places the NE header. The place is under 64, or the header's 64 bytes do not lie in the
+     * file.
+     */
+    NE_REFUSED_HEADER_OUTSIDE = 4, /* the NE header is not in the file */
+
+    /* The NE header starts with the letters NE. */
+    NE_REFUSED_NO_NE = 5, /* no NE at the NE header's place */
+
+    /* The word at 32h of the NE header is the alignment shift, by which sectors become places. It is 15 at most. */
+    NE_REFUSED_ALIGNMENT_SHIFT = 6, /* the alignment shift is over 15 */
+
+    /* The segment table, the module references, the entry table or the nonresident names pass the end of the file. */
+    NE_REFUSED_TABLE_OUTSIDE = 7, /* a table leaves the file */
+
+    /* The number that was asked for is 0 or above the count of the segments, names, modules or resources. */
+    NE_REFUSED_NO_SUCH_NUMBER = 8, /* no such number */
+
+    /*
+     * The segment's stored bytes, the count of its fixup records or the records pass the end of the file, or it has
+     * records and no stored bytes. Its place counts in sectors of 2 to the alignment shift; a shift of 0 is taken as it
+     * stands, and not as 9.
+     */
+    NE_REFUSED_SEGMENT_OUTSIDE = 9, /* the segment leaves the file */
+
+    /*
+     * The segment's bytes are stored as repeated blocks (flag 0008h). Linkers that pack a module write them on purpose,
+     * and they are not read yet.
+     */
+    NE_REFUSED_ITERATED = 10, /* the segment is iterated */
+
+    /* The segment takes fewer bytes in memory than are stored for it. */
+    NE_REFUSED_ALLOCATION_TOO_SMALL = 11, /* the allocation is under the stored length */
+
+    /* The bytes of the entry table end inside a bundle, or before the byte 0 that ends it. */
+    NE_REFUSED_ENTRY_TABLE_WITHOUT_END = 12, /* the entry table ends inside a bundle or has no end byte */
+
+    /*
+     * An entry point lies in segment 0 or in one above the count of the segment table, or a movable entry lacks the
+     * bytes CDh 3Fh. A bundle of segment 254 is taken for one of that segment, although later tools write it for
+     * constants.
+     */
+    NE_REFUSED_BAD_ENTRY = 13, /* an entry's segment or its CDh 3Fh is missing */
+
+    /* The entry table has more ordinals than a word can count. */
+    NE_REFUSED_TOO_MANY_ORDINALS = 14, /* over 65,535 ordinals */
+
+    /* The ordinal that was asked for is not covered by the entry table, or no entry point has it. */
+    NE_REFUSED_NO_SUCH_ORDINAL = 15, /* no such ordinal */
+
+    /*
+     * The resident names do not end inside the file, the nonresident names do not end inside their byte count, or a
+     * module's name is empty or passes the end of the file.
+     */
+    NE_REFUSED_BAD_NAMES = 16, /* a name list or a module's name is unsound */
+
+    /* No name has exactly these bytes. Capital and small letters differ, and a list's first string is not searched. */
+    NE_REFUSED_NO_SUCH_NAME = 17, /* no such name */
+
+    /* The resource table passes the end of the file before its type 0, or its shift is over 15. */
+    NE_REFUSED_BAD_RESOURCE_TABLE = 18, /* the resource table leaves the file, or its shift is over 15 */
+
+    /* No resource has this type and this id. Both are words with the bit 8000h. */
+    NE_REFUSED_NO_SUCH_RESOURCE = 19, /* no such resource */
+
+    /* The resource is in the table, and its data pass the end of the file. */
+    NE_REFUSED_RESOURCE_OUTSIDE = 20, /* the resource's data leave the file */
+
+    /*
+     * There are fewer selectors than segments, fewer answers than records, less output than the allocation or fewer
+     * marks than stored bytes.
+     */
+    NE_REFUSED_TOO_LITTLE_LENT = 21, /* a list or a buffer is too short */
+
+    /* A fixup record is of another type than 0 (low byte), 2 (selector), 3 (far pointer) or 5 (offset). */
+    NE_REFUSED_FIXUP_TYPE = 22, /* the fixup's type is unknown */
+
+    /* A fixup record names a segment, an entry point, a module or an imported name that is not there. */
+    NE_REFUSED_FIXUP_TARGET = 23, /* the fixup's target does not resolve */
+
+    /* A site of a fixup record, or of the chain that starts there, does not lie in the segment's stored bytes. */
+    NE_REFUSED_SPAN_OUTSIDE = 24, /* span outside the stored bytes */
+
+    /* Two sites of the segment's fixups share a byte, as they do where a chain comes back to itself. */
+    NE_REFUSED_SPANS_MEET = 25, /* span meets an earlier one */
+
+    /* The segment's fixups have over 65,536 sites. It is never given: that many spans that do not meet have no room. */
+    NE_REFUSED_TOO_MANY_SITES = 26, /* over 65,536 sites */
+};
+
+/* The text of a refusal, "accepted" for 0, and "unknown refusal" for a number that has none. */
+static inline const char *ne_refusal_text(uint32_t number)
+{
+    switch (number) {
+    case NE_ACCEPTED: return "accepted";
+    case NE_REFUSED_IMAGE_TOO_SHORT: return "the file has under 64 bytes";
+    case NE_REFUSED_IMAGE_TOO_LONG: return "the file has over 16,777,216 bytes";
+    case NE_REFUSED_NO_MZ: return "no MZ at the start";
+    case NE_REFUSED_HEADER_OUTSIDE: return "the NE header is not in the file";
+    case NE_REFUSED_NO_NE: return "no NE at the NE header's place";
+    case NE_REFUSED_ALIGNMENT_SHIFT: return "the alignment shift is over 15";
+    case NE_REFUSED_TABLE_OUTSIDE: return "a table leaves the file";
+    case NE_REFUSED_NO_SUCH_NUMBER: return "no such number";
+    case NE_REFUSED_SEGMENT_OUTSIDE: return "the segment leaves the file";
+    case NE_REFUSED_ITERATED: return "the segment is iterated";
+    case NE_REFUSED_ALLOCATION_TOO_SMALL: return "the allocation is under the stored length";
+    case NE_REFUSED_ENTRY_TABLE_WITHOUT_END: return "the entry table ends inside a bundle or has no end byte";
+    case NE_REFUSED_BAD_ENTRY: return "an entry's segment or its CDh 3Fh is missing";
+    case NE_REFUSED_TOO_MANY_ORDINALS: return "over 65,535 ordinals";
+    case NE_REFUSED_NO_SUCH_ORDINAL: return "no such ordinal";
+    case NE_REFUSED_BAD_NAMES: return "a name list or a module's name is unsound";
+    case NE_REFUSED_NO_SUCH_NAME: return "no such name";
+    case NE_REFUSED_BAD_RESOURCE_TABLE: return "the resource table leaves the file, or its shift is over 15";
+    case NE_REFUSED_NO_SUCH_RESOURCE: return "no such resource";
+    case NE_REFUSED_RESOURCE_OUTSIDE: return "the resource's data leave the file";
+    case NE_REFUSED_TOO_LITTLE_LENT: return "a list or a buffer is too short";
+    case NE_REFUSED_FIXUP_TYPE: return "the fixup's type is unknown";
+    case NE_REFUSED_FIXUP_TARGET: return "the fixup's target does not resolve";
+    case NE_REFUSED_SPAN_OUTSIDE: return "span outside the stored bytes";
+    case NE_REFUSED_SPANS_MEET: return "span meets an earlier one";
+    case NE_REFUSED_TOO_MANY_SITES: return "over 65,536 sites";
+    default: return "unknown refusal";
+    }
+}
+
+/* Here ends what is written by include/refusals. */
 
 #ifdef __cplusplus
 extern "C" {
@@ -127,7 +249,10 @@ struct ne_name_result {
     uint32_t ordinal;  /* the ordinal word behind the text, 0 to 65,535 */
 };
 
-/* The name of a number, counted from 1. Refusals: 1 to 7, then 16 for either list, whatever the number is, then 8. */
+/*
+ * The name of a number, counted from 1. Refusals: 1 to 7, then 16 for either list, whatever the number is, then 8. The
+ * resident list has to end inside the image, and the nonresident one inside its byte count.
+ */
 struct ne_name_result ne_name_by_number(const uint8_t *image, size_t image_len, uint32_t number);
 
 /*
@@ -178,10 +303,11 @@ struct ne_prepare_result {
 
 /*
  * Prepares the segment of a number, counted from 1: its stored bytes, zeros up to its allocation, and all its fixups done.
- * `selectors` has one for each segment of the module, as many as ne_header says. `answers` has one
- * for each record of this segment, whatever its kind: that of record n, counted from 1, is answers[n - 1], and is read where
- * the record is an import, with the offset in the low word and the selector in the high word. ne_segment gives the number of
- * records, the allocation and the number of stored bytes. Longer lists are fine.
+ * `selectors` has one for each segment of the module, as many as ne_header says. `answers` has one for each record of
+ * this segment, whatever its kind: that of record n, counted from 1, is answers[n - 1], and is read where the record is
+ * an import, with the offset in the low word and the selector in the high word. `output` has as many bytes as the
+ * allocation, and `marks` as many as are stored. ne_segment gives the number of records, the allocation and the number
+ * of stored bytes. Longer ones are fine, and 21 refuses a shorter one.
  *
  * Accepted: `output` has the prepared bytes, and is as it came from the allocation's length on; `marks` has 1 exactly at
  * each byte that lies in a fixup's span and 0 elsewhere, also from the stored length on. Refused: `output` is as it came,

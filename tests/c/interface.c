@@ -544,6 +544,48 @@ static void steps(void)
     expect("a step in 4 bytes", others(buffer, sizeof buffer, 0xff), 4);
 }
 
+/* What is refused has its name in the header. */
+static void refusals(void)
+{
+    uint8_t image[SIZE];
+    struct room room;
+    make_fixups(image);
+    expect("accepted, by name", ne_header(image, sizeof image).refusal, NE_ACCEPTED);
+    expect("1 by name", ne_header(image, 63).refusal, NE_REFUSED_IMAGE_TOO_SHORT);
+    expect("4 by name", ne_header(image, 127).refusal, NE_REFUSED_HEADER_OUTSIDE);
+    expect("8 by name", ne_segment(image, sizeof image, 2).refusal, NE_REFUSED_NO_SUCH_NUMBER);
+    expect("15 by name", ne_ordinal(image, sizeof image, 2).refusal, NE_REFUSED_NO_SUCH_ORDINAL);
+    expect("16 by name", ne_module(image, sizeof image, 1).refusal, NE_REFUSED_BAD_NAMES);
+    expect("17 by name", find(image, "alpha").refusal, NE_REFUSED_NO_SUCH_NAME);
+    expect("19 by name", ne_resource_by_words(image, sizeof image, 0, 0).refusal, NE_REFUSED_NO_SUCH_RESOURCE);
+    image[144 + 20 + 2 + 8 + 2] = 9;
+    expect("25 by name", prepare(image, sizeof image, 1, &room).refusal, NE_REFUSED_SPANS_MEET);
+    image[64] = 'P';
+    expect("5 by name", ne_header(image, sizeof image).refusal, NE_REFUSED_NO_NE);
+}
+
+static void text_is(const char *what, uint32_t number, const char *text)
+{
+    expect(what, (uint32_t)(strcmp(ne_refusal_text(number), text) != 0), 0);
+}
+
+/* The texts of the refusals themselves are compared with their table by tests/c/run. */
+static void texts(void)
+{
+    text_is("text of no refusal", 0, "accepted");
+    text_is("text of a number that no refusal has", 1000000, "unknown refusal");
+    text_is("text of the largest number", UINT32_MAX, "unknown refusal");
+}
+
+#define TEXT(number) #number
+#define JOINED(major, minor, patch) TEXT(major) "." TEXT(minor) "." TEXT(patch)
+
+static void version(void)
+{
+    const char *joined = JOINED(NE_VERSION_MAJOR, NE_VERSION_MINOR, NE_VERSION_PATCH);
+    expect("the version and its numbers", (uint32_t)(strcmp(NE_VERSION, joined) != 0), 0);
+}
+
 int main(void)
 {
     headers();
@@ -556,5 +598,8 @@ int main(void)
     resources();
     preparing();
     steps();
+    refusals();
+    texts();
+    version();
     return failures != 0;
 }

@@ -18,8 +18,8 @@ int main(void)
     struct ne_prepare_result p =
         ne_prepare(image, sizeof image, 1, selectors, 1, answers, 1, output, sizeof output, marks, sizeof marks);
 
-    if (p.refusal != 0) {
-        printf("refused %u at record %u\n", (unsigned)p.refusal, (unsigned)p.record);
+    if (p.refusal != NE_ACCEPTED) {
+        printf("refused %u at record %u: %s\n", (unsigned)p.refusal, (unsigned)p.record, ne_refusal_text(p.refusal));
         return 1;
     }
     printf("%u sites\n", (unsigned)p.sites);

@@ -100,7 +100,7 @@ impl Module {
 
 impl Segment {
     /// Adds the stored bytes and the records, and puts the row at its place.
-    fn add(&self, image: &mut Vec<u8>, row: usize) {
+    pub fn add(&self, image: &mut Vec<u8>, row: usize) {
         let start = image.len().next_multiple_of(UNIT);
         image.resize(start, 0);
         image.extend(&self.stored);

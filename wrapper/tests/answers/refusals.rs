@@ -34,7 +34,7 @@ fn every_refusal_has_texts_of_its_own() {
         let sentences = [refusal.meaning(), refusal.advice()];
         assert!(sentences.iter().all(|text| text.ends_with('.')));
         // It follows a colon, on a line of a report.
-        assert!(refusal.text().len() <= 48 && !refusal.text().ends_with('.'));
+        assert!(refusal.text().len() <= 60 && !refusal.text().ends_with('.'));
     }
 }
 
