@@ -1,6 +1,6 @@
 //! The arguments of a command.
 
-use crate::commands::Command;
+use crate::commands::{Command, Opt};
 use crate::escape::escaped;
 use crate::failure::Failure;
 use crate::numbers;
@@ -28,57 +28,100 @@ impl Arguments {
             options: Vec::new(),
         };
         while let Some(argument) = given.next() {
-            if argument == "--" {
-                arguments.operands.extend(given);
-                break;
-            }
-            match is_option(&argument) {
-                true => arguments.add_option(&argument, &mut given)?,
-                false => arguments.operands.push(argument),
+            match argument.as_bytes() {
+                b"--" => {
+                    arguments.operands.extend(given);
+                    break;
+                }
+                [b'-', b'-', ..] => arguments.add_named(&argument, &mut given)?,
+                [b'-', letters @ ..] if !letters.is_empty() => {
+                    arguments.add_letters(letters, &mut given)?;
+                }
+                _ => arguments.operands.push(argument),
             }
         }
         Ok(arguments)
     }
 
-    /// The value stands behind a `=` or is the next argument.
-    fn add_option(
+    /// `--name`, `--name value` or `--name=value`.
+    fn add_named(
         &mut self,
         argument: &OsStr,
         rest: &mut impl Iterator<Item = OsString>,
     ) -> Result<(), Failure> {
         let (name, joined) = split(argument);
-        let unknown = || format!("unknown option '{}'", escaped(name.as_bytes()));
-        let option = self
-            .command
-            .option(name)
-            .ok_or_else(|| self.wrong(unknown()))?;
-        let wrong = |what| Err(self.wrong(format_args!("{} {what}", option.name)));
-        if self.has(option.name) {
-            return wrong("is given twice");
+        let found = self.command.option(name);
+        let option = found.ok_or_else(|| self.unknown_option(name.as_bytes()))?;
+        match (option.value, joined) {
+            (None, Some(_)) => Err(self.wrong(format_args!("{} takes no value", option.name))),
+            (Some(_), Some(value)) => self.add(option, value.to_os_string()),
+            (_, None) => self.add_alone(option, rest),
         }
-        let value = match (option.value, joined) {
-            (None, None) => Some(OsString::new()),
-            (None, Some(_)) => return wrong("takes no value"),
-            (Some(_), Some(value)) => Some(value.to_os_string()),
-            (Some(_), None) => rest.next().filter(|value| !is_option(value)),
+    }
+
+    /// One option or several, each of one letter: `-rq`, `-o value`, `-ovalue`.
+    fn add_letters(
+        &mut self,
+        letters: &[u8],
+        rest: &mut impl Iterator<Item = OsString>,
+    ) -> Result<(), Failure> {
+        for (index, &letter) in letters.iter().enumerate() {
+            let found = self.command.option_of_letter(char::from(letter));
+            let option = found.ok_or_else(|| self.unknown_option(&[b'-', letter]))?;
+            let joined = &letters[index + 1..];
+            if option.value.is_some() && !joined.is_empty() {
+                let value = joined.strip_prefix(b"=").unwrap_or(joined);
+                return self.add(option, OsStr::from_bytes(value).to_os_string());
+            }
+            self.add_alone(option, rest)?;
+        }
+        Ok(())
+    }
+
+    /// An option whose value, if it takes one, is the next argument.
+    fn add_alone(
+        &mut self,
+        option: &'static Opt,
+        rest: &mut impl Iterator<Item = OsString>,
+    ) -> Result<(), Failure> {
+        let is_value = |next: &OsString| next == "-" || !next.as_bytes().starts_with(b"-");
+        let value = match option.value {
+            None => Some(OsString::new()),
+            Some(_) => rest.next().filter(is_value),
         };
-        let Some(value) = value else {
-            return wrong("needs a value");
-        };
+        match value {
+            Some(value) => self.add(option, value),
+            None => Err(self.wrong(format_args!("{} needs a value", option.name))),
+        }
+    }
+
+    fn add(&mut self, option: &'static Opt, value: OsString) -> Result<(), Failure> {
+        if self.has(option.name) {
+            return Err(self.wrong(format_args!("{} is given twice", option.name)));
+        }
         self.options.push((option.name, value));
         Ok(())
+    }
+
+    fn unknown_option(&self, name: &[u8]) -> Failure {
+        self.wrong(format_args!("unknown option '{}'", escaped(name)))
     }
 
     /// Are there as many operands as the command takes?
     pub fn check_operands(&self) -> Result<(), Failure> {
         let (given, known) = (self.operands.len(), self.command.operands);
         if given < self.command.least {
-            return Err(self.wrong(format_args!("{} is missing", known[given])));
+            return Err(self.missing(known[given]));
         }
         match self.operands.get(known.len()) {
             Some(extra) if !self.command.repeats => Err(self.wrong(extra_argument(extra))),
             _ => Ok(()),
         }
+    }
+
+    /// An operand is missing.
+    pub fn missing(&self, operand: &str) -> Failure {
+        self.wrong(format_args!("{operand} is missing"))
     }
 
     /// A wrong command line, with a hint to this command's help.
@@ -116,12 +159,7 @@ pub fn extra_argument(argument: &OsStr) -> String {
     format!("extra argument '{}'", escaped(argument.as_bytes()))
 }
 
-/// A lone `-` is a file: standard input or output.
-fn is_option(argument: &OsStr) -> bool {
-    argument != "-" && argument.as_bytes().starts_with(b"-")
-}
-
-/// An option's name, and its value if that stands behind a `=`.
+/// An option's name, and its value if that stands after a `=`.
 fn split(argument: &OsStr) -> (&OsStr, Option<&OsStr>) {
     let mut parts = argument.as_bytes().splitn(2, |byte| *byte == b'=');
     let name = parts.next().unwrap_or_default();

@@ -1,50 +1,59 @@
 //! `nemod check`: would uploads be accepted?
 
+mod files;
 mod json;
+mod judge;
+mod progress;
 mod report;
-mod stand_ins;
 mod summary;
 mod verdict;
 mod work;
+
+pub use judge::{Judge, Scope};
+pub use progress::Progress;
+pub use verdict::Checked;
+pub use work::Work;
 
 use crate::arguments::Arguments;
 use crate::failure::Failure;
 use crate::output::Output;
 use crate::read;
 use crate::status::Status;
-use stand_ins::StandIns;
-use std::ffi::OsStr;
+use files::Listed;
+use report::Report;
+use std::io;
 use summary::Summary;
-use verdict::Verdict;
-use work::Work;
 
 pub fn run(arguments: &Arguments, output: &mut Output) -> Result<Status, Failure> {
-    let (all, json) = (arguments.has("--all"), arguments.has("--json"));
-    let mut stand_ins = StandIns::new();
+    let report = Report::of(arguments);
+    let mut judge = Judge::new(Scope::of(arguments), Work::of(arguments)?);
+    let files = files::of(arguments)?;
+    let mut progress = Progress::new(files.len());
     let mut summary = Summary::default();
-    for file in arguments.operands() {
-        let verdict = judge(file, Work::new(all), &mut stand_ins);
-        match json {
-            true => writeln!(output, "{}", json::object(file, &verdict))?,
-            false => report::write(file, &verdict, output)?,
+    for file in files {
+        progress.next_file(&file.name);
+        let checked = check(&file, &mut judge, &mut progress);
+        if report.tells(&checked) {
+            progress.make_room();
+            report.write(&file.name, &checked, output)?;
+            // A file's lines are there when the next one is read.
+            output.flush()?;
         }
-        // A file's lines are there when the next one is read.
-        output.flush()?;
-        summary.add(verdict.outcome());
+        summary.add(checked.outcome());
     }
-    if !json {
-        writeln!(output, "{summary}")?;
-    }
+    progress.finish();
+    report.write_summary(&summary, output)?;
     Ok(summary.status())
 }
 
-/// Reads a file and judges it. A file that can't be read is told at once.
-fn judge(path: &OsStr, work: Work, stand_ins: &mut StandIns) -> Verdict {
-    match read::bytes(path) {
-        Ok(bytes) => stand_ins.judge(&bytes, work),
-        Err(error) => {
-            Failure::of_file(path, &error).report();
-            Verdict::Unread(error.to_string())
-        }
-    }
+fn check(file: &Listed, judge: &mut Judge, progress: &mut Progress) -> Checked {
+    let input = match &file.unread {
+        Some(error) => Err(io::Error::new(error.kind(), error.to_string())),
+        None => read::file(&file.name),
+    };
+    let found = input.map(|input| {
+        let verdict = judge.image(&input.bytes, progress);
+        (input, verdict)
+    });
+    Checked { found }
 }

@@ -31,6 +31,8 @@ pub struct Command {
 
 pub struct Opt {
     pub name: &'static str,
+    /// Its letter, after one hyphen.
+    pub letter: Option<char>,
     /// What its value is, if it takes one.
     pub value: Option<&'static str>,
     pub text: &'static str,
@@ -39,6 +41,7 @@ pub struct Opt {
 /// The option that every command has.
 const HELP: Opt = Opt {
     name: "--help",
+    letter: Some('h'),
     value: None,
     text: "This help.",
 };
@@ -63,11 +66,10 @@ impl Command {
     }
 
     pub fn option(&self, name: &OsStr) -> Option<&'static Opt> {
-        let name = if name == "-h" {
-            OsStr::new(HELP.name)
-        } else {
-            name
-        };
         self.options().find(|option| name == option.name)
+    }
+
+    pub fn option_of_letter(&self, letter: char) -> Option<&'static Opt> {
+        self.options().find(|option| option.letter == Some(letter))
     }
 }

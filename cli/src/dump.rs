@@ -3,8 +3,7 @@
 #[cfg(test)]
 mod tests;
 
-use std::env;
-use std::io::{self, IsTerminal};
+use crate::colour::{self, Colour};
 
 /// The bytes of a line.
 const WIDTH: usize = 16;
@@ -12,7 +11,7 @@ const WIDTH: usize = 16;
 /// How a fixup's bytes stand out.
 #[derive(Clone, Copy, Debug, PartialEq, Eq)]
 pub enum Style {
-    /// By a sign behind each.
+    /// By a sign after each.
     Signs,
     /// By colour, on a terminal.
     Colours,
@@ -68,11 +67,8 @@ impl Dump<'_> {
 }
 
 impl Style {
-    /// Colours are for those who look at a terminal and don't say that they want
-    /// none.
     pub fn of_output() -> Style {
-        let unwanted = env::var_os("NO_COLOR").is_some_and(|value| !value.is_empty());
-        match io::stdout().is_terminal() && !unwanted {
+        match colour::on_output() {
             true => Style::Colours,
             false => Style::Signs,
         }
@@ -101,8 +97,10 @@ impl Style {
 
 /// Red where a fixup changed something, else green.
 fn coloured(text: &str, done: Done) -> String {
-    let colour = if done == Done::Changed { 31 } else { 32 };
-    format!("\x1b[1;{colour}m{text}\x1b[0m")
+    match done {
+        Done::Changed => Colour::Red.paint(text),
+        _ => Colour::Green.paint(text),
+    }
 }
 
 fn printable(byte: &u8) -> char {

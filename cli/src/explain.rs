@@ -2,28 +2,46 @@
 
 use crate::arguments::Arguments;
 use crate::failure::Failure;
+use crate::json::Object;
 use crate::output::Output;
 use crate::status::Status;
 use parchgable::Refusal;
 
 pub fn run(arguments: &Arguments, output: &mut Output) -> Result<Status, Failure> {
-    match arguments.operands().first() {
-        Some(number) => one(arguments, arguments.number(number)?, output)?,
-        None => all(output)?,
+    let asked = match arguments.operands().first() {
+        Some(number) => Some(of_number(arguments, arguments.number(number)?)?),
+        None => None,
+    };
+    match (asked, arguments.has("--json")) {
+        (Some(refusal), false) => {
+            writeln!(output, "{refusal}")?;
+            writeln!(output, "Meaning: {}", refusal.meaning())?;
+            writeln!(output, "What to do: {}", refusal.advice())?;
+        }
+        (Some(refusal), true) => writeln!(output, "{}", object(refusal))?,
+        (None, json) => all(json, output)?,
     }
     Ok(Status::Accepted)
 }
 
-fn one(arguments: &Arguments, number: u32, output: &mut Output) -> Result<(), Failure> {
-    let refusal = Refusal::try_from(number).map_err(|unknown| arguments.wrong(unknown))?;
-    writeln!(output, "{refusal}")?;
-    writeln!(output, "Meaning: {}", refusal.meaning())?;
-    writeln!(output, "What to do: {}", refusal.advice())
+fn of_number(arguments: &Arguments, number: u32) -> Result<Refusal, Failure> {
+    Refusal::try_from(number).map_err(|unknown| arguments.wrong(unknown))
 }
 
-fn all(output: &mut Output) -> Result<(), Failure> {
+fn all(json: bool, output: &mut Output) -> Result<(), Failure> {
     for refusal in Refusal::ALL {
-        writeln!(output, "{:>2}  {}", refusal.number(), refusal.text())?;
+        match json {
+            true => writeln!(output, "{}", object(refusal))?,
+            false => writeln!(output, "{:>2}  {}", refusal.number(), refusal.text())?,
+        }
     }
     Ok(())
+}
+
+fn object(refusal: Refusal) -> Object {
+    Object::default()
+        .number("refusal", refusal.number())
+        .string("text", refusal.text())
+        .string("meaning", refusal.meaning())
+        .string("advice", refusal.advice())
 }

@@ -1,7 +1,7 @@
 //! Writing the help texts.
 
 use crate::arguments::extra_argument;
-use crate::commands::{Command, COMMANDS};
+use crate::commands::{Command, Opt, COMMANDS};
 use crate::failure::Failure;
 use crate::output::Output;
 use crate::status::Status;
@@ -11,17 +11,28 @@ const INTRODUCTION: &str = "\
 Reads 16-bit Windows modules (NE: drivers, libraries and programs of Windows 1
 to 3) and prepares their segments for loading. FILE is a module of at most
 16,777,216 bytes, or - for standard input. Numbers are decimal, or hexadecimal
-behind 0x.";
+after 0x.";
 const ENDING: &str = "\
-'nemod COMMAND --help' says more of each; 'nemod --version' gives the version.
+'nemod help COMMAND' says more of each; 'nemod --version' gives the version.
 
 exit status:
   0 if all was accepted, 1 if something was refused, 2 if something could not be
   read or written or if the command line is wrong";
 
-/// `nemod --help`.
-pub fn all(rest: impl Iterator<Item = OsString>, output: &mut Output) -> Result<Status, Failure> {
+/// `nemod --help`, and `nemod help` with or without a command.
+pub fn asked(
+    mut rest: impl Iterator<Item = OsString>,
+    output: &mut Output,
+) -> Result<Status, Failure> {
+    let command = rest.next();
     nothing_more(rest)?;
+    match command {
+        Some(name) => of(Command::named(&name)?, output),
+        None => all(output),
+    }
+}
+
+fn all(output: &mut Output) -> Result<Status, Failure> {
     writeln!(
         output,
         "usage: nemod COMMAND ...\n\n{INTRODUCTION}\n\ncommands:"
@@ -41,13 +52,20 @@ pub fn of(command: &Command, output: &mut Output) -> Result<Status, Failure> {
         command.name, command.usage, command.text
     )?;
     for option in command.options() {
-        let name = match option.value {
-            Some(value) => format!("{} {value}", option.name),
-            None => option.name.to_string(),
-        };
-        writeln!(output, "  {name:<16}  {}", option.text)?;
+        writeln!(output, "  {:<21} {}", spelled(option), option.text)?;
     }
     Ok(Status::Accepted)
+}
+
+/// An option with its letter and its value.
+fn spelled(option: &Opt) -> String {
+    let letter = option
+        .letter
+        .map_or(String::new(), |letter| format!("-{letter}, "));
+    let value = option
+        .value
+        .map_or(String::new(), |value| format!(" {value}"));
+    format!("{letter}{}{value}", option.name)
 }
 
 /// `nemod --version`.

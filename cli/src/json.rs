@@ -1,6 +1,9 @@
 //! JSON objects on one line.
 
+use parchgable::Refused;
+use std::ffi::OsStr;
 use std::fmt::{self, Display, Write};
+use std::os::unix::ffi::OsStrExt;
 
 /// An object, as far as its members are added.
 #[derive(Default)]
@@ -9,6 +12,16 @@ pub struct Object {
 }
 
 impl Object {
+    /// One that has a file's name. A name that is not UTF-8 has no exact string,
+    /// so its bytes stand beside what can be written of it.
+    pub fn of_file(file: &OsStr) -> Self {
+        let object = Object::default().string("file", &file.to_string_lossy());
+        match file.to_str() {
+            Some(_) => object,
+            None => object.string("file_hex", &hex(file.as_bytes())),
+        }
+    }
+
     pub fn string(self, name: &str, text: &str) -> Self {
         self.member(name, string(text))
     }
@@ -17,9 +30,40 @@ impl Object {
         self.member(name, number.into())
     }
 
-    pub fn objects(self, name: &str, objects: impl Iterator<Item = Object>) -> Self {
+    /// Bytes that mostly are text: as a string in which every other byte than
+    /// ASCII is the character of its number, so that none is lost.
+    pub fn bytes(self, name: &str, bytes: &[u8]) -> Self {
+        let text: String = bytes.iter().map(|byte| char::from(*byte)).collect();
+        self.string(name, &text)
+    }
+
+    pub fn strings(self, name: &str, texts: &[&str]) -> Self {
+        let texts: Vec<String> = texts.iter().map(|text| string(text)).collect();
+        self.member(name, format_args!("[{}]", texts.join(",")))
+    }
+
+    pub fn object(self, name: &str, object: Object) -> Self {
+        self.member(name, object)
+    }
+
+    pub fn boolean(self, name: &str, value: bool) -> Self {
+        self.member(name, value)
+    }
+
+    /// An array.
+    pub fn list(self, name: &str, objects: impl Iterator<Item: Display>) -> Self {
         let objects: Vec<String> = objects.map(|object| object.to_string()).collect();
         self.member(name, format_args!("[{}]", objects.join(",")))
+    }
+
+    /// Why something is refused.
+    pub fn refused(self, why: &Refused) -> Self {
+        let object = self.number("refusal", why.refusal.number());
+        let object = match why.record {
+            Some(record) => object.number("record", record),
+            None => object,
+        };
+        object.string("text", why.refusal.text())
     }
 
     fn member(mut self, name: &str, value: impl Display) -> Self {
@@ -49,4 +93,8 @@ fn string(text: &str) -> String {
         }
     }
     string + "\""
+}
+
+fn hex(bytes: &[u8]) -> String {
+    bytes.iter().map(|byte| format!("{byte:02X}")).collect()
 }

@@ -1,4 +1,4 @@
-//! Lists of numbers: on the command line, or in a file behind `@`.
+//! Lists of numbers: on the command line, or in a file after `@`.
 
 use crate::arguments::Arguments;
 use crate::failure::Failure;
@@ -20,8 +20,8 @@ pub fn of_option(arguments: &Arguments, option: &str, most: u32) -> Result<Vec<u
 
 /// A list's file. A longer one than any list needs is refused, so that no
 /// endless one is read.
-fn file(path: &OsStr) -> Result<Vec<u8>, Failure> {
-    let bytes = read::needed(path)?;
+pub fn file(path: &OsStr) -> Result<Vec<u8>, Failure> {
+    let bytes = read::needed(path)?.bytes;
     match bytes.len() {
         0..=read::LONGEST => Ok(bytes),
         _ => Err(Failure::of_file(path, "too long for a list")),

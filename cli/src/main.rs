@@ -1,10 +1,13 @@
 //! The command `nemod`: checks, shows and prepares 16-bit Windows modules.
 
-#![forbid(unsafe_code)]
+#![deny(unsafe_code)]
 
 mod arguments;
 mod check;
+mod colour;
 mod commands;
+mod delivery;
+mod describe;
 mod dump;
 mod escape;
 mod explain;
@@ -20,7 +23,12 @@ mod output_file;
 mod prepare;
 mod query;
 mod read;
+mod sha256;
 mod status;
+#[allow(unsafe_code)]
+mod system;
+mod tables;
+mod words;
 
 use arguments::Arguments;
 use commands::Command;
@@ -45,8 +53,8 @@ fn run(mut arguments: ArgsOs) -> Result<Status, Failure> {
     let first = arguments.next().ok_or_else(missing)?;
     let mut output = Output::new();
     let status = match first.to_str() {
-        Some("--help" | "-h") => help::all(arguments, &mut output)?,
-        Some("--version") => help::version(arguments, &mut output)?,
+        Some("--help" | "-h" | "help") => help::asked(arguments, &mut output)?,
+        Some("--version" | "-V") => help::version(arguments, &mut output)?,
         _ => run_command(Command::named(&first)?, arguments, &mut output)?,
     };
     output.flush()?;

@@ -5,7 +5,7 @@ use crate::escape::escaped;
 /// The bytes of a wrong number that are shown at most.
 const SHOWN: usize = 40;
 
-/// A number of decimal digits, or of hexadecimal ones behind `0x`, of at most
+/// A number of decimal digits, or of hexadecimal ones after `0x`, of at most
 /// `most`; or what is wrong with it.
 pub fn number(text: &[u8], most: u32) -> Result<u32, String> {
     let hexadecimal = text.strip_prefix(b"0x").or(text.strip_prefix(b"0X"));
@@ -30,7 +30,7 @@ pub fn number(text: &[u8], most: u32) -> Result<u32, String> {
 }
 
 /// The text, or as much of it as fits a line.
-fn shown(text: &[u8]) -> String {
+pub fn shown(text: &[u8]) -> String {
     match text.len() {
         0..=SHOWN => escaped(text),
         _ => format!("{}...", escaped(&text[..SHOWN])),
@@ -38,7 +38,8 @@ fn shown(text: &[u8]) -> String {
 }
 
 /// A count with its noun: `1 site`, `2 sites`.
-pub fn count(number: usize, noun: &str) -> String {
+pub fn count(number: impl TryInto<u64>, noun: &str) -> String {
+    let number = number.try_into().unwrap_or(u64::MAX);
     let plural = if number == 1 { "" } else { "s" };
     format!("{number} {noun}{plural}")
 }

@@ -1,9 +1,9 @@
 //! `nemod prepare`: a segment as it is loaded.
 
 mod too_short;
-mod wanted;
 
 use crate::arguments::Arguments;
+use crate::delivery::Delivery;
 use crate::dump::{Dump, Style};
 use crate::failure::Failure;
 use crate::lists;
@@ -12,7 +12,6 @@ use crate::output::Output;
 use crate::read;
 use crate::status::Status;
 use parchgable::{Image, Prepared, Refusal, Refused};
-use wanted::Wanted;
 
 /// A segment to prepare, and what is given for it.
 struct Request<'a> {
@@ -23,31 +22,42 @@ struct Request<'a> {
 }
 
 pub fn run(arguments: &Arguments, output: &mut Output) -> Result<Status, Failure> {
-    let wanted = Wanted::of(arguments)?;
+    let (delivery, show) = wanted(arguments)?;
     let number = arguments.number(arguments.operand(1))?;
     let selectors = lists::of_option(arguments, "--selectors", u16::MAX.into())?;
     let answers = lists::of_option(arguments, "--answers", u32::MAX)?;
     let file = read::needed(arguments.operand(0))?;
+    delivery.spares(&file)?;
     let request = Request {
-        image: Image::new(&file),
+        image: Image::new(&file.bytes),
         number,
         selectors: selectors.into_iter().map(|word| word as u16).collect(),
         answers,
     };
     match request.prepared() {
-        Ok(prepared) => request.deliver(&prepared, &wanted, output),
+        Ok(prepared) => {
+            let text = |output: &mut Output| request.tell(&prepared, show, output);
+            delivery.deliver(&prepared.bytes, output, text)?;
+            Ok(Status::Accepted)
+        }
         Err(refused) if refused.refusal == Refusal::TooLittleLent => Err(request.too_short()),
-        Err(refused) => tell(refused, &wanted, output),
+        Err(refused) => {
+            delivery.tell(refused, output)?;
+            Ok(Status::Refused)
+        }
     }
 }
 
-/// Where the bytes go to standard output, a refusal must not be taken for them.
-fn tell(refused: Refused, wanted: &Wanted, output: &mut Output) -> Result<Status, Failure> {
-    match wanted.bytes_on_output() {
-        true => Failure::new(refused).report(),
-        false => writeln!(output, "{refused}")?,
+/// Where the bytes go, and whether they are shown.
+fn wanted(arguments: &Arguments) -> Result<(Delivery<'_>, bool), Failure> {
+    let (delivery, show) = (Delivery::of(arguments), arguments.has("--show"));
+    match (&delivery, show) {
+        (Delivery::Nowhere, false) => Err(arguments.wrong("give --output, --show or both")),
+        (Delivery::Output, true) => {
+            Err(arguments.wrong("--output - and --show both write to standard output"))
+        }
+        _ => Ok((delivery, show)),
     }
-    Ok(Status::Refused)
 }
 
 impl Request<'_> {
@@ -56,28 +66,11 @@ impl Request<'_> {
         self.image.prepared(number, &self.selectors, &self.answers)
     }
 
-    /// Delivers all or nothing: a file takes its place when everything else is
-    /// written.
-    fn deliver(
-        &self,
-        prepared: &Prepared,
-        wanted: &Wanted,
-        output: &mut Output,
-    ) -> Result<Status, Failure> {
-        if wanted.bytes_on_output() {
-            output.write_all(&prepared.bytes)?;
-            return Ok(Status::Accepted);
-        }
-        let file = wanted.file(&prepared.bytes)?;
-        if wanted.show {
+    fn tell(&self, prepared: &Prepared, show: bool, output: &mut Output) -> Result<(), Failure> {
+        if show {
             self.show(prepared, output)?;
         }
-        writeln!(output, "{}", count(prepared.sites as usize, "site"))?;
-        output.flush()?;
-        if let Some(file) = file {
-            file.commit().map_err(|error| wanted.failed(error))?;
-        }
-        Ok(Status::Accepted)
+        writeln!(output, "{}", count(prepared.sites, "site"))
     }
 
     fn show(&self, prepared: &Prepared, output: &mut Output) -> Result<(), Failure> {

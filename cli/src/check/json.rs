@@ -1,75 +1,88 @@
 //! The report for programs: an object for each file.
 
-use super::verdict::{Accepted, Outcome, Verdict};
+use super::judge::Scope;
+use super::verdict::{Checked, Fault, Outcome, Part, Verdict};
 use crate::json::Object;
-use parchgable::Refused;
+use crate::read::{Input, LONGEST};
+use crate::sha256;
 use std::ffi::OsStr;
-use std::os::unix::ffi::OsStrExt;
 
-pub fn object(file: &OsStr, verdict: &Verdict) -> Object {
-    let object = named(file).string("status", word(verdict.outcome()));
-    match verdict {
-        Verdict::Unread(reason) => object.string("reason", reason),
-        Verdict::Header(refusal) => refused(object, &Refused::from(*refusal)),
-        Verdict::Segments { checked, unchecked } => {
-            let segments = (1..).zip(checked);
-            // A file is refused for its first segment that is refused.
-            let mut bad = segments.clone().filter_map(|(number, segment)| {
-                let why = segment.as_ref().err()?;
-                Some((number, why))
-            });
-            let object = match bad.next() {
-                Some((number, why)) => refused(object.number("segment", number), why),
-                None => object,
-            };
-            object
-                .number("unchecked", *unchecked as u64)
-                .objects("segments", segments.map(segment))
+pub fn object(file: &OsStr, checked: &Checked, scope: Scope) -> Object {
+    let object = Object::of_file(file).string("status", word(checked.outcome()));
+    match &checked.found {
+        Err(error) => object.string("reason", &error.to_string()),
+        Ok((input, verdict)) => {
+            let object = object.string("checked", scope_word(scope));
+            found(of_input(object, input), verdict)
         }
     }
 }
 
-/// The file's name. One that is not UTF-8 has no exact string, so its bytes
-/// stand beside what can be written of it.
-fn named(file: &OsStr) -> Object {
-    let object = Object::default().string("file", &file.to_string_lossy());
-    match file.to_str() {
-        Some(_) => object,
-        None => object.string("file_hex", &hex(file.as_bytes())),
+/// The size and the hash of a file that was read to its end.
+fn of_input(object: Object, input: &Input) -> Object {
+    match input.bytes.len() {
+        0..=LONGEST => object
+            .number("size", input.bytes.len() as u64)
+            .string("sha256", &sha256::of(&input.bytes)),
+        _ => object,
     }
 }
 
-fn segment((number, segment): (u32, &Result<Accepted, Refused>)) -> Object {
-    let object = Object::default().number("segment", number);
-    match segment {
-        Ok(accepted) => object
-            .string("status", word(Outcome::Accepted))
-            .number("sites", accepted.sites)
-            .number("stored", accepted.stored as u64)
-            .number("allocation", accepted.allocation),
-        Err(why) => refused(object.string("status", word(Outcome::Refused)), why),
-    }
-}
-
-fn refused(object: Object, why: &Refused) -> Object {
-    let object = match why.record {
-        Some(record) => object.number("record", record),
+/// The first fault is the file's own, and all that are listed follow.
+fn found(object: Object, verdict: &Verdict) -> Object {
+    let object = match verdict.faults.first() {
+        Some(first) => add_fault(object, first),
         None => object,
     };
-    object
-        .number("refusal", why.refusal.number())
-        .string("text", why.refusal.text())
-}
-
-fn word(outcome: Outcome) -> &'static str {
-    match outcome {
-        Outcome::Accepted => "accepted",
-        Outcome::Refused => "refused",
-        Outcome::Unread => "unread",
-        Outcome::Unfinished => "unfinished",
+    let object = object
+        .number("segments", verdict.segments)
+        .number("sites", verdict.sites)
+        .list("faults", verdict.faults.iter().map(fault_object))
+        .number("more_faults", verdict.more);
+    match verdict.stopped {
+        Some(part) => object.object("stopped", add_part(Object::default(), part)),
+        None => object,
     }
 }
 
-fn hex(bytes: &[u8]) -> String {
-    bytes.iter().map(|byte| format!("{byte:02X}")).collect()
+fn fault_object(fault: &Fault) -> Object {
+    add_fault(Object::default(), fault)
+}
+
+fn add_fault(object: Object, fault: &Fault) -> Object {
+    add_part(object, fault.part).refused(&fault.why)
+}
+
+fn add_part(object: Object, part: Part) -> Object {
+    let object = object.string("part", part_word(part));
+    match part.number() {
+        Some(number) => object.number("number", number),
+        None => object,
+    }
+}
+
+fn part_word(part: Part) -> &'static str {
+    match part {
+        Part::Header => "header",
+        Part::Entries => "entries",
+        Part::Names => "names",
+        Part::Module(_) => "module",
+        Part::ResourceTable | Part::Resource(_) => "resource",
+        Part::Segment(_) => "segment",
+    }
+}
+
+fn scope_word(scope: Scope) -> &'static str {
+    match scope {
+        Scope::All => "all",
+        Scope::Segments => "segments",
+    }
+}
+
+/// In JSON a file that could not be read is `unread`, in one word.
+fn word(outcome: Outcome) -> &'static str {
+    match outcome {
+        Outcome::Unread => "unread",
+        other => other.text(),
+    }
 }

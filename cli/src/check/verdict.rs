@@ -1,27 +1,50 @@
 //! What is found of a file.
 
+use crate::read::Input;
 use crate::status::Status;
-use parchgable::{Refusal, Refused};
+use parchgable::Refused;
+use std::io;
 
-pub enum Verdict {
-    /// The file could not be read, for this reason.
-    Unread(String),
-    /// The header is refused.
-    Header(Refusal),
-    /// The header is accepted.
-    Segments {
-        /// The segments that were checked, from the first on.
-        checked: Vec<Result<Accepted, Refused>>,
-        /// How many follow that were not.
-        unchecked: usize,
-    },
+/// The faults of one file that are listed at most. A file can have 65,535
+/// segments, and all of them can be bad.
+pub const LISTED: usize = 100;
+
+/// A file that was looked at.
+pub struct Checked {
+    /// Its bytes and what they are found to be, or why they could not be read.
+    pub found: io::Result<(Input, Verdict)>,
 }
 
-/// A segment that is accepted.
-pub struct Accepted {
-    pub sites: u32,
-    pub stored: usize,
-    pub allocation: u32,
+/// A part of a module that is refused by itself.
+#[derive(Clone, Copy, Debug, PartialEq, Eq)]
+pub enum Part {
+    Header,
+    Entries,
+    Names,
+    Module(u32),
+    ResourceTable,
+    Resource(u32),
+    Segment(u32),
+}
+
+pub struct Fault {
+    pub part: Part,
+    pub why: Refused,
+}
+
+/// What is found of an image.
+#[derive(Default)]
+pub struct Verdict {
+    /// The first faults, in the order of the parts.
+    pub faults: Vec<Fault>,
+    /// How many more there are.
+    pub more: u32,
+    /// The segments of the module, if its header is accepted.
+    pub segments: u32,
+    /// The sites of the segments that are accepted.
+    pub sites: u64,
+    /// The part with which the work would have been too much.
+    pub stopped: Option<Part>,
 }
 
 /// The verdict in a word.
@@ -29,31 +52,69 @@ pub struct Accepted {
 pub enum Outcome {
     Accepted,
     Refused,
-    Unread,
     /// Nothing was refused, and not all was checked.
-    Unfinished,
+    TooMuchWork,
+    Unread,
+}
+
+impl Part {
+    /// The number of a part that is one of several.
+    pub fn number(self) -> Option<u32> {
+        match self {
+            Part::Module(number) | Part::Resource(number) | Part::Segment(number) => Some(number),
+            Part::Header | Part::Entries | Part::Names | Part::ResourceTable => None,
+        }
+    }
 }
 
 impl Verdict {
+    pub fn add(&mut self, part: Part, why: Refused) {
+        match self.faults.len() {
+            LISTED.. => self.more += 1,
+            _ => self.faults.push(Fault { part, why }),
+        }
+    }
+
     pub fn outcome(&self) -> Outcome {
+        match (self.faults.is_empty(), self.stopped) {
+            (false, _) => Outcome::Refused,
+            (true, Some(_)) => Outcome::TooMuchWork,
+            (true, None) => Outcome::Accepted,
+        }
+    }
+}
+
+impl Checked {
+    pub fn outcome(&self) -> Outcome {
+        match &self.found {
+            Ok((_, verdict)) => verdict.outcome(),
+            Err(_) => Outcome::Unread,
+        }
+    }
+
+    pub fn status(&self) -> Status {
+        self.outcome().into()
+    }
+}
+
+impl Outcome {
+    pub const fn text(self) -> &'static str {
         match self {
-            Verdict::Unread(_) => Outcome::Unread,
-            Verdict::Header(_) => Outcome::Refused,
-            Verdict::Segments { checked, .. } if checked.iter().any(Result::is_err) => {
-                Outcome::Refused
-            }
-            Verdict::Segments { unchecked: 0, .. } => Outcome::Accepted,
-            Verdict::Segments { .. } => Outcome::Unfinished,
+            Outcome::Accepted => "accepted",
+            Outcome::Refused => "refused",
+            Outcome::TooMuchWork => "too much work",
+            Outcome::Unread => "not read",
         }
     }
 }
 
 impl From<Outcome> for Status {
+    /// What is not accepted is refused: no file is left between the two.
     fn from(outcome: Outcome) -> Status {
         match outcome {
             Outcome::Accepted => Status::Accepted,
-            Outcome::Refused => Status::Refused,
-            Outcome::Unread | Outcome::Unfinished => Status::Failed,
+            Outcome::Refused | Outcome::TooMuchWork => Status::Refused,
+            Outcome::Unread => Status::Failed,
         }
     }
 }

@@ -36,6 +36,69 @@ fn all() {
     assert_eq!(answer.status, Some(0));
 }
 
+/// Everything that document 01 gives a number for is among its causes.
+#[test]
+fn causes() {
+    let table: [(u32, &[&str]); 5] = [
+        (
+            7,
+            &[
+                "segment table",
+                "module references",
+                "entry table",
+                "nonresident names",
+                "cut off",
+                "stripped",
+            ],
+        ),
+        (
+            9,
+            &[
+                "stored bytes",
+                "count of its fixup records",
+                "no stored bytes",
+                "shift of 0",
+                "cut off",
+            ],
+        ),
+        (
+            10,
+            &["0008h", "on purpose", "not read yet", "without packing"],
+        ),
+        (
+            13,
+            &[
+                "segment 0",
+                "above the count",
+                "CDh 3Fh",
+                "254",
+                "constants",
+            ],
+        ),
+        (
+            16,
+            &[
+                "resident names",
+                "nonresident names",
+                "byte count",
+                "module's name",
+                "empty",
+                "cut off",
+            ],
+        ),
+    ];
+    for (number, causes) in table {
+        let refusal = Refusal::try_from(number).expect("a refusal");
+        let said = format!("{} {}", refusal.meaning(), refusal.advice());
+        for cause in causes {
+            assert!(said.contains(cause), "{number}: {cause}");
+        }
+    }
+    for refusal in Refusal::ALL {
+        assert!(!refusal.advice().contains("faulty"), "{refusal}");
+    }
+}
+
 #[test]
 fn no_refusal() {
     let folder = Folder::new();

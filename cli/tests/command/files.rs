@@ -13,10 +13,9 @@ fn all_files_are_checked_and_the_worst_decides() {
     let answer = folder.nemod(&["check", "nowhere", "empty", "s.drv"]);
     let expected = Answer {
         status: Some(2),
-        output: "empty: refused 1: the file has under 64 bytes
-s.drv: 2 segments
-  segment 1: accepted, 2 sites, 8 of 10 bytes
-  segment 2: accepted, 2 sites, 6 of 6 bytes
+        output: "nowhere: not read: No such file or directory (os error 2)
+empty: refused 1: the file has under 64 bytes
+s.drv: accepted, 2 segments, 4 sites
 3 files: 1 accepted, 1 refused, 1 not read
 "
         .to_string(),
@@ -32,8 +31,9 @@ s.drv: 2 segments
 #[track_caller]
 fn not_read(folder: &Folder, file: &str, reason: &str) {
     let message = format!("nemod: {file}: {reason}\n");
+    let line = format!("{file}: not read: {reason}");
     let expected = Answer {
-        output: "1 file: 0 accepted, 0 refused, 1 not read\n".to_string(),
+        output: format!("{line}\n1 file: 0 accepted, 0 refused, 1 not read\n"),
         ..fails(&message)
     };
     assert_eq!(folder.nemod(&["check", file]), expected);

@@ -5,11 +5,19 @@ mod long;
 use crate::module::{put_word, Module, NE, SEGMENTS};
 use crate::run::{says, Folder};
 
-const SAMPLE: &str = "s.drv: 296 bytes
+const SAMPLE: &str = "s.drv: accepted, 2 segments, 4 sites
+296 bytes
 
 Header
   NE header          at 64
-  sector             16 bytes
+  linker             0.0
+  module             program, no data segment of its own (0x0000)
+  target system      unknown (0)
+  data segment       none
+  heap and stack     0 and 0 bytes
+  entry point        none
+  stack at           none
+  sector             16 bytes, shift 4
   segment table      2 at 128
   entry table        16 bytes at 144
   resource table     at 160
@@ -19,9 +27,9 @@ Header
   nonresident names  18 bytes at 215
 
 Segments
-   number       start   stored  allocation   flags  records
-        1         240        8          10  0x0100        1
-        2         272        6           6  0x0100        2
+   number       start   stored  allocation  records   flags
+        1         240        8          10        1  0x0100  code, fixed, load on call, fixups
+        2         272        6           6        2  0x0100  code, fixed, load on call, fixups
 
 Entry points
   ordinal  segment  offset  flag
@@ -41,8 +49,8 @@ Modules
         2  KERNEL
 
 Resources
-   number    type      id   flags     start    length
-        1  0x8006  0x8007  0x0C30        48        32
+   number  type              id     start    length   flags
+        1  string             7        48        32  0x0C30  movable, shareable, load on call
 ";
 
 #[test]
@@ -52,15 +60,105 @@ fn sample() {
     assert_eq!(folder.nemod(&["info", "--all", "s.drv"]), says(0, SAMPLE));
 }
 
+/// The words of a header of which every field says something.
+#[test]
+fn words_of_the_header() {
+    let folder = Folder::with_damaged_sample(|image| {
+        image[NE + 2..NE + 4].copy_from_slice(&[5, 60]);
+        let words = [
+            (0x0C, 0x8A09),
+            (0x0E, 2),
+            (0x10, 1024),
+            (0x12, 1),
+            (0x14, 0x1234),
+            (0x16, 1),
+            (0x18, 0xABCD),
+            (0x1A, 2),
+            (0x36, 2),
+            (0x3E, 0x030A),
+        ];
+        for (field, word) in words {
+            put_word(image, NE + field, word);
+        }
+    });
+    let expected = "
+Header
+  NE header          at 64
+  linker             5.60
+  module             library, one data segment, protected mode, self-loading (0x8A09)
+  target system      Windows (2), version 3.10
+  data segment       2
+  heap and stack     1024 and 1 byte
+  entry point        1:1234
+  stack at           2:ABCD
+  sector             16 bytes, shift 4
+";
+    let answer = folder.nemod(&["info", "s.drv"]);
+    assert_eq!(answer.status, Some(0));
+    assert!(answer.output.contains(expected), "{}", answer.output);
+}
+
+/// What can be read is shown, and marked as unchecked.
 #[test]
 fn header_is_refused() {
-    let folder = Folder::new();
-    folder.put("bad", &[0; 64]);
-    let expected = "bad: refused 3: no MZ at the start\n";
-    assert_eq!(folder.nemod(&["info", "bad"]), says(1, expected));
-    folder.put("empty", b"");
-    let expected = "empty: refused 1: the file has under 64 bytes\n";
-    assert_eq!(folder.nemod(&["info", "empty"]), says(1, expected));
+    let none = "Header, unchecked\n  there is no NE header that could be read\n";
+    let unchecked = "Header, unchecked
+  NE header          at 64
+  linker             0.0
+  module             program, no data segment of its own (0x0000)
+";
+    let shift = "  sector             65536 bytes, shift 16\n  segment table      2 at 128\n";
+    let outside = "  nonresident names  18 bytes at 215\n";
+    let table: [(fn(&mut Vec<u8>), &str, [&str; 2]); 7] = [
+        (
+            |image| image.clear(),
+            "refused 1: the file has under 64 bytes\n0 bytes\n",
+            [none; 2],
+        ),
+        (
+            |image| image.truncate(64),
+            "refused 4: the NE header is not in the file\n64 bytes\n",
+            [none; 2],
+        ),
+        (
+            |image| image[NE] = b'P',
+            "refused 5: no NE at the NE header's place\n296 bytes\n",
+            [none; 2],
+        ),
+        (
+            |image| image[0] = 0,
+            "refused 3: no MZ at the start\n296 bytes\n",
+            [unchecked, outside],
+        ),
+        (
+            |image| put_word(image, NE + 0x32, 16),
+            "refused 6: the alignment shift is over 15\n296 bytes\n",
+            [unchecked, shift],
+        ),
+        (
+            |image| put_word(image, NE + 0x32, 40),
+            "refused 6: the alignment shift is over 15\n296 bytes\n",
+            [unchecked, "  sector             0 bytes, shift 40\n"],
+        ),
+        (
+            |image| image.truncate(232),
+            "refused 7: a table leaves the file\n232 bytes\n",
+            [unchecked, outside],
+        ),
+    ];
+    for (damage, start, parts) in table {
+        let answer = Folder::with_damaged_sample(damage).nemod(&["info", "s.drv"]);
+        assert_eq!(answer.status, Some(1));
+        assert!(
+            answer.output.starts_with(&format!("s.drv: {start}")),
+            "{}",
+            answer.output
+        );
+        for part in parts {
+            assert!(answer.output.contains(part), "{}", answer.output);
+        }
+        assert!(!answer.output.contains("Segments"), "{}", answer.output);
+    }
 }
 
 /// The sections of an image, without the header's.
@@ -110,23 +208,23 @@ fn refused_tables() {
     image[160] = 16; // the resources' shift
     let expected = "
 Segments
-   number       start   stored  allocation   flags  records
+   number       start   stored  allocation  records   flags
         1  refused 10: the segment is iterated
-        2         272        6           6  0x0100        2
+        2         272        6           6        2  0x0100  code, fixed, load on call, fixups
 
 Entry points
-  refused 12: the entry table has no end
+  refused 12: the entry table ends inside a bundle or has no end byte
 
 Names
-  refused 16: a name list or a name is bad
+  refused 16: a name list or a module's name is unsound
 
 Modules
    number  name
-        1  refused 16: a name list or a name is bad
+        1  refused 16: a name list or a module's name is unsound
         2  KERNEL
 
 Resources
-  refused 18: the resource table is bad
+  refused 18: the resource table leaves the file, or its shift is over 15
 ";
     let (status, text) = sections(&image, &[]);
     assert_eq!((status, text.as_str()), (Some(1), expected));
@@ -147,6 +245,8 @@ fn each_section_counts() {
     assert_eq!(status(|image| image[199] = 0), Some(1));
     assert_eq!(status(|image| image[160] = 16), Some(1));
     assert_eq!(status(|image| put_word(image, 170, 0xFFFF)), Some(1));
+    // A bad fixup is in no table, and stands below the verdict.
+    assert_eq!(status(|image| image[290] = 3), Some(1));
 }
 
 /// The data of the first resource leave the file, and the second is shown.
@@ -160,9 +260,9 @@ fn a_resource_is_refused() {
     put_word(&mut image, 170, 0xFFFF);
     let expected = "
 Resources
-   number    type      id   flags     start    length
-        1  refused 20: the resource's data are not in the file
-        2  0x8006  0x8008  0x0000        16        16
+   number  type              id     start    length   flags
+        1  refused 20: the resource's data leave the file
+        2  string             8        16        16  0x0000  fixed, load on call
 ";
     let (status, text) = sections(&image, &[]);
     assert_eq!(status, Some(1));

@@ -1,4 +1,4 @@
-//! `nemod list`: the lines of the listing program.
+//! `nemod list`: the lines of the listing program, without its limit.
 
 use crate::module::{put_word, Module, NE};
 use crate::run::{says, Folder};
@@ -19,9 +19,9 @@ fn expect(length: usize, status: i32, text: &str) {
 fn lengths() {
     expect(296, 0, LISTING);
     expect(65_536, 0, LISTING);
-    expect(65_537, 1, "too long\n");
-    expect(16_777_216, 1, "too long\n");
-    expect(16_777_217, 1, "too long\n");
+    expect(65_537, 0, LISTING);
+    expect(16_777_216, 0, LISTING);
+    expect(16_777_217, 1, "refused 2\n");
     expect(63, 1, "refused 1\n");
     expect(0, 1, "refused 1\n");
 }
@@ -30,7 +30,10 @@ fn lengths() {
 fn no_entry_points() {
     let folder = Folder::new();
     folder.put("file", &Module::default().image());
-    assert_eq!(folder.nemod(&["list", "file"]), says(0, "ordinals 0\nend\n"));
+    assert_eq!(
+        folder.nemod(&["list", "file"]),
+        says(0, "ordinals 0\nend\n")
+    );
 }
 
 #[test]

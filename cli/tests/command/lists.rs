@@ -138,5 +138,8 @@ fn left_out() {
     let answer = folder.nemod(&["prepare", "s.drv", "1", "--show", "--selectors", "7"]);
     assert_eq!(answer, says(0, shown));
     let one = format!("nemod: prepare: --selectors needs 1 number and has 0: {NEEDS_SELECTORS}");
-    assert_eq!(folder.nemod(&["prepare", "s.drv", "1", "--show"]), fails(&one));
+    assert_eq!(
+        folder.nemod(&["prepare", "s.drv", "1", "--show"]),
+        fails(&one)
+    );
 }

@@ -4,8 +4,10 @@
 #![forbid(unsafe_code)]
 
 mod check;
+mod cut;
 mod explain;
 mod files;
+mod folders;
 mod help;
 mod info;
 mod json;
@@ -20,4 +22,5 @@ mod prepare;
 mod query;
 mod run;
 mod streams;
+mod terminal;
 mod usage;

@@ -98,9 +98,9 @@ fn file_is_not_read() {
 #[test]
 fn where_to_is_not_said() {
     let folder = Folder::with_sample();
-    let nowhere = "nemod: prepare: give -o, --show or both\nTry 'nemod prepare --help'.\n";
+    let nowhere = "nemod: prepare: give --output, --show or both\nTry 'nemod prepare --help'.\n";
     assert_eq!(prepare(&folder, "1", &[]), fails(nowhere));
-    let both = "nemod: prepare: -o - and --show both write to standard output
+    let both = "nemod: prepare: --output - and --show both write to standard output
 Try 'nemod prepare --help'.
 ";
     assert_eq!(prepare(&folder, "1", &["-o", "-", "--show"]), fails(both));

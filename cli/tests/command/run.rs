@@ -52,10 +52,19 @@ pub struct Folder {
 
 impl Folder {
     pub fn new() -> Folder {
+        Folder::below(Path::new(env!("CARGO_TARGET_TMPDIR")))
+    }
+
+    /// One that other users can reach.
+    pub fn in_temporary_files() -> Folder {
+        Folder::below(&std::env::temp_dir())
+    }
+
+    fn below(place: &Path) -> Folder {
         static COUNT: AtomicU32 = AtomicU32::new(0);
         let number = COUNT.fetch_add(1, Ordering::Relaxed);
         let name = format!("nemod-{}-{number}", process::id());
-        let path = Path::new(env!("CARGO_TARGET_TMPDIR")).join(name);
+        let path = place.join(name);
         fs::create_dir(&path).expect("a new folder");
         Folder { path }
     }
@@ -64,6 +73,15 @@ impl Folder {
     pub fn with_sample() -> Folder {
         let folder = Folder::new();
         folder.put("s.drv", &Module::sample().image());
+        folder
+    }
+
+    /// One that has it after some damage.
+    pub fn with_damaged_sample(damage: impl Fn(&mut Vec<u8>)) -> Folder {
+        let folder = Folder::new();
+        let mut image = Module::sample().image();
+        damage(&mut image);
+        folder.put("s.drv", &image);
         folder
     }
 
@@ -94,6 +112,19 @@ impl Folder {
         command.args(arguments).current_dir(&self.path);
         command.stdin(Stdio::null());
         command
+    }
+
+    /// A shell's command line, in which `nemod` is the command.
+    pub fn shell(&self, line: &str) -> Answer {
+        let mut shell = Command::new("bash");
+        shell
+            .arg("-c")
+            .arg(format!("nemod() {{ \"$NEMOD\" \"$@\"; }}\n{line}"));
+        shell
+            .env("NEMOD", env!("CARGO_BIN_EXE_nemod"))
+            .current_dir(&self.path);
+        let output = shell.stdin(Stdio::null()).output();
+        output.expect("a shell that runs").into()
     }
 
     /// Runs the command.

@@ -6,9 +6,7 @@ use std::fs::{File, OpenOptions};
 use std::io::Write;
 use std::process::{Command, Stdio};
 
-const ACCEPTED: &str = "-: 2 segments
-  segment 1: accepted, 2 sites, 8 of 10 bytes
-  segment 2: accepted, 2 sites, 6 of 6 bytes
+const ACCEPTED: &str = "-: accepted, 2 segments, 4 sites
 1 file: 1 accepted, 0 refused, 0 not read
 ";
 
@@ -34,13 +32,66 @@ fn standard_input() {
     assert_eq!(ask(&["ordinal", "-", "1"]), says(0, found));
 }
 
+/// An empty file is refused. What could not be read is not, since a job would
+/// mark a good row refused.
 #[test]
-fn standard_input_without_bytes() {
-    let folder = Folder::new();
-    let expected = "-: refused 1: the file has under 64 bytes
+fn standard_input_that_is_not_read() {
+    let folder = Folder::with_sample();
+    let not_read = |reason: &str| Answer {
+        status: Some(2),
+        output: format!("-: not read: {reason}\n1 file: 0 accepted, 0 refused, 1 not read\n"),
+        errors: format!("nemod: -: {reason}\n"),
+    };
+    let empty = "-: refused 1: the file has under 64 bytes
 1 file: 0 accepted, 1 refused, 0 not read
 ";
-    assert_eq!(folder.nemod(&["check", "-"]), says(1, expected));
+    let table = [
+        ("nemod check - </dev/null", says(1, empty)),
+        ("nemod check - <&-", not_read("standard input is closed")),
+        (
+            "nemod check - 0>out",
+            not_read("Bad file descriptor (os error 9)"),
+        ),
+        ("nemod check - <.", not_read("Is a directory (os error 21)")),
+        (
+            "nemod list - <&-",
+            fails("nemod: -: standard input is closed\n"),
+        ),
+        (
+            "nemod check --files-from - <&-",
+            fails("nemod: -: standard input is closed\n"),
+        ),
+    ];
+    for (line, expected) in table {
+        assert_eq!(folder.shell(line), expected, "{line}");
+    }
+}
+
+/// It holds one file, and is not taken for a second one without bytes.
+#[test]
+fn standard_input_twice() {
+    let expected = Answer {
+        status: Some(2),
+        output: "-: accepted, 2 segments, 4 sites
+-: not read: standard input was read before
+2 files: 1 accepted, 0 refused, 1 not read
+"
+        .to_string(),
+        errors: "nemod: -: standard input was read before\n".to_string(),
+    };
+    assert_eq!(
+        Folder::with_sample().shell("nemod check - - <s.drv"),
+        expected
+    );
+}
+
+/// A pipe with a name is waited for, as other commands do.
+#[test]
+fn a_pipe_that_is_written_later() {
+    let folder = Folder::with_sample();
+    let line = "mkfifo pipe; (sleep 0.2; cat s.drv >pipe) & nemod check pipe";
+    let expected = ACCEPTED.replace("-:", "pipe:");
+    assert_eq!(folder.shell(line), says(0, &expected));
 }
 
 /// It is read in as many pieces as it comes.
@@ -70,9 +121,10 @@ fn endless_standard_input() {
     let checked = answer(folder.command(&["check", "-"]).stdin(zeros()));
     assert_eq!(checked, says(1, expected));
     let listed = answer(folder.command(&["list", "-"]).stdin(zeros()));
-    assert_eq!(listed, says(1, "too long\n"));
+    assert_eq!(listed, says(1, "refused 2\n"));
+    let shown = folder.nemod(&["info", "/dev/zero"]);
     let expected = "/dev/zero: refused 2: the file has over 16,777,216 bytes\n";
-    assert_eq!(folder.nemod(&["info", "/dev/zero"]), says(1, expected));
+    assert!(shown.output.starts_with(expected), "{}", shown.output);
 }
 
 /// Whoever closes the pipe is told nothing. The command waits for its input, so
@@ -95,6 +147,38 @@ fn closed_output() {
         let errors = std::io::read_to_string(child.stderr.take().expect("a pipe"));
         let errors = errors.expect("text alone");
         assert_eq!((status.code(), errors.as_str()), (Some(2), ""));
+    }
+}
+
+/// The verdict can't be told then. With `--quiet` the status is all there is to
+/// tell.
+#[test]
+fn no_output() {
+    let folder = Folder::with_sample();
+    let closed = fails("nemod: standard output: it is closed\n");
+    let unwritable = fails("nemod: standard output: Bad file descriptor (os error 9)\n");
+    let table = [
+        ("nemod check s.drv >&-", closed),
+        ("nemod check s.drv 1<s.drv", unwritable),
+        ("nemod check -q s.drv >&-", says(0, "")),
+        ("nemod check s.drv >/dev/null", says(0, "")),
+        // As some programs open what they don't look at.
+        ("nemod check s.drv 1<>/dev/null", says(0, "")),
+    ];
+    for (line, expected) in table {
+        assert_eq!(folder.shell(line), expected, "{line}");
+    }
+    let commands = [
+        "--help",
+        "-V",
+        "info s.drv",
+        "list s.drv",
+        "segment s.drv 1",
+        "explain",
+    ];
+    for command in commands {
+        let line = format!("nemod {command} >&-");
+        assert_eq!(folder.shell(&line).status, Some(2), "{line}");
     }
 }
 

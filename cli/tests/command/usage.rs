@@ -16,7 +16,8 @@ fn commands() {
     wrong(&[""], "unknown command ''", "--help");
     wrong(&["\x1B[2J"], "unknown command '\\x1B[2J'", "--help");
     wrong(&["--json"], "unknown option '--json'", "--help");
-    wrong(&["--help", "check"], "extra argument 'check'", "--help");
+    wrong(&["--help", "chek"], "unknown command 'chek'", "--help");
+    wrong(&["help", "check", "1"], "extra argument '1'", "--help");
     wrong(&["--version", "1"], "extra argument '1'", "--help");
 }
 
@@ -35,6 +36,20 @@ fn options() {
         "check: --json takes no value",
         check,
     );
+    wrong(&["check", "-qx"], "check: unknown option '-x'", check);
+    wrong(&["check", "-q=1"], "check: unknown option '-='", check);
+    wrong(
+        &["check", "-qq", "x"],
+        "check: --quiet is given twice",
+        check,
+    );
+    wrong(
+        &["check", "-0", "x"],
+        "check: --null needs --files-from",
+        check,
+    );
+    let both = ["check", "--work", "1", "--all", "x"];
+    wrong(&both, "check: give either --work or --all", check);
     let twice = ["check", "--json", "--json", "s.drv"];
     wrong(&twice, "check: --json is given twice", check);
     let name = "name --help";
@@ -48,7 +63,7 @@ fn options() {
     wrong(&option, "prepare: --selectors needs a value", prepare);
     wrong(
         &["prepare", "s.drv", "1", "-o"],
-        "prepare: -o needs a value",
+        "prepare: --output needs a value",
         prepare,
     );
 }
@@ -81,6 +96,16 @@ fn operands() {
         "resource: NUMBER is missing",
         "resource --help",
     );
+    let alone = ["resource", "s.drv", "icon"];
+    wrong(&alone, "resource: ID is missing", "resource --help");
+    wrong(
+        &["resource", "s.drv", "ico", "1"],
+        "resource: 'ico' is no type's name and not a number of 32 bits",
+        "resource --help",
+    );
+    let both = ["segment", "s.drv", "1", "--json", "-o-"];
+    let message = "segment: --json and --output - both write to standard output";
+    wrong(&both, message, "segment --help");
     let extra = ["resource", "s.drv", "1", "2", "3"];
     wrong(&extra, "resource: extra argument '3'", "resource --help");
     wrong(
