@@ -24,3 +24,4 @@ mod run;
 mod streams;
 mod terminal;
 mod usage;
+mod verdicts;
