@@ -217,23 +217,19 @@ fn waiting(folder: &Folder) -> Child {
         ..Module::default()
     };
     folder.put("long.drv", &module.image());
-    let arguments = [
-        "prepare",
-        "long.drv",
-        "1",
-        "--selectors=1",
-        "--show",
-        "-o",
-        "out",
-    ];
-    let mut command = folder.command(&arguments);
-    let child = command.stdout(Stdio::piped()).spawn();
+    // SIGQUIT would leave a file beside the others.
+    let line = "ulimit -c 0; exec \"$0\" prepare long.drv 1 --selectors=1 --show -o out";
+    let mut command = Command::new("bash");
+    command.args(["-c", line, env!("CARGO_BIN_EXE_nemod")]);
+    command.current_dir(folder.path(".")).stdout(Stdio::piped());
+    let child = command.spawn();
     let child = child.expect("a command that runs");
-    while !folder.names().contains(&".nemod-0.tmp".to_string()) {
+    // The file is written when signals are caught.
+    let written =
+        || fs::metadata(folder.path(".nemod-0.tmp")).is_ok_and(|found| found.len() == 65_535);
+    while !written() {
         thread::sleep(Duration::from_millis(1));
     }
-    // The handler is there a little later than the file.
-    thread::sleep(Duration::from_millis(50));
     child
 }
 
