@@ -3,7 +3,7 @@
 mod long;
 
 use crate::module::{put_word, Module, NE, SEGMENTS};
-use crate::run::{says, Folder};
+use crate::run::{says, Damage, Folder};
 
 const SAMPLE: &str = "s.drv: accepted, 2 segments, 4 sites
 296 bytes
@@ -109,7 +109,7 @@ fn header_is_refused() {
 ";
     let shift = "  sector             65536 bytes, shift 16\n  segment table      2 at 128\n";
     let outside = "  nonresident names  18 bytes at 215\n";
-    let table: [(fn(&mut Vec<u8>), &str, [&str; 2]); 7] = [
+    let table: [(Damage, &str, [&str; 2]); 7] = [
         (
             |image| image.clear(),
             "refused 1: the file has under 64 bytes\n0 bytes\n",

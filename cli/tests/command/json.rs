@@ -1,7 +1,7 @@
 //! `--json`.
 
 use crate::module::{put_word, Module, Segment, NE, SEGMENTS};
-use crate::run::{says, Answer, Folder};
+use crate::run::{says, Answer, Damage, Folder};
 use std::ffi::OsStr;
 use std::os::unix::ffi::OsStrExt;
 use std::process::Command;
@@ -36,7 +36,7 @@ fn accepted() {
 #[test]
 fn refused() {
     let counts = r#""segments":2,"sites":4"#;
-    let table: [(fn(&mut Vec<u8>), &str, &str); 7] = [
+    let table: [(Damage, &str, &str); 7] = [
         (
             |image| image[0] = 0,
             r#""part":"header","refusal":3,"text":"no MZ at the start""#,

@@ -44,6 +44,9 @@ pub fn fails(errors: &str) -> Answer {
     }
 }
 
+/// A change of an image.
+pub type Damage = fn(&mut Vec<u8>);
+
 /// A folder for the files of one test, in which the command runs. It goes when
 /// the test ends.
 pub struct Folder {
