@@ -71,38 +71,24 @@ fn segment(random: &mut Random, segments: usize) -> (Vec<u8>, usize) {
 fn generated(random: &mut Random) -> Vec<u8> {
     let (segments, resources) = (1 + random.below(4), 1 + random.below(4));
     let strings: Vec<Vec<u8>> = (0..1 + random.below(3)).map(|_| string(random)).collect();
-    let places = strings.iter().scan(0, |at, string| {
-        let place = *at as u16;
-        *at += string.len();
-        Some(place)
-    });
-    let modules: Vec<u8> = places.flat_map(u16::to_le_bytes).collect();
-    let mut entries = vec![1, 1, 1, 0, 0, 2, 0];
-    entries.extend([1, 255, 1, 0xCD, 0x3F, segments as u8, 0, 0, 0]);
-    let mut header = vec![0; NE + 64];
-    header[..2].copy_from_slice(b"MZ");
-    put_word(&mut header, 0x3C, NE as u16);
-    header[NE..NE + 2].copy_from_slice(b"NE");
+    let entries = entries(segments as u8);
     let nonresident = names(random);
-    let fields = [
+    let header = header(&[
         (0x06, entries.len()),
         (0x1C, segments),
         (0x1E, strings.len()),
         (0x20, nonresident.len()),
         (0x32, SECTOR.ilog2() as usize),
-    ];
-    for (field, word) in fields {
-        put_word(&mut header, NE + field, word as u16);
-    }
-    let mut rows = Vec::new();
+    ]);
     let mut parts = vec![
         (Part::Table(0x04), entries),
         (Part::Table(0x26), names(random)),
-        (Part::Table(0x28), modules),
+        (Part::Table(0x28), places(&strings)),
         (Part::Table(0x2A), strings.concat()),
         (Part::Nonresident, nonresident),
         (RESOURCES, resource_table(resources)),
     ];
+    let mut rows = Vec::new();
     for number in 0..segments {
         let (part, length) = segment(random, segments);
         let words = [0, length as u16, 0x0100, length as u16];
@@ -114,6 +100,35 @@ fn generated(random: &mut Random) -> Vec<u8> {
         parts.push((Part::Data(number), random.bytes(SECTOR * (1 + number))));
     }
     laid_out(header, parts, random)
+}
+
+/// Both headers, with these words in the NE header.
+fn header(fields: &[(usize, usize)]) -> Vec<u8> {
+    let mut header = vec![0; NE + 64];
+    header[..2].copy_from_slice(b"MZ");
+    put_word(&mut header, 0x3C, NE as u16);
+    header[NE..NE + 2].copy_from_slice(b"NE");
+    for (field, word) in fields {
+        put_word(&mut header, NE + field, *word as u16);
+    }
+    header
+}
+
+/// A fixed entry, null ordinals, a movable entry in the last segment, and the end.
+fn entries(last: u8) -> Vec<u8> {
+    let fixed = [1, 1, 1, 0, 0];
+    let movable = [1, 255, 1, 0xCD, 0x3F, last, 0, 0];
+    [&fixed[..], &[2, 0], &movable, &[0]].concat()
+}
+
+/// The module references: the place of each string among all.
+fn places(strings: &[Vec<u8>]) -> Vec<u8> {
+    let places = strings.iter().scan(0, |next, string| {
+        let place = *next;
+        *next += string.len() as u16;
+        Some(place)
+    });
+    places.flat_map(u16::to_le_bytes).collect()
 }
 
 /// A block for each resource, whose length in sectors is its number.
