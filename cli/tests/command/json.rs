@@ -29,6 +29,9 @@ fn expect(damage: impl Fn(&mut Vec<u8>), status: i32, word: &str, rest: &str) {
 fn accepted() {
     let rest = r#""segments":2,"sites":4,"faults":[],"more_faults":0"#;
     expect(|_| (), 0, "accepted", rest);
+    let answer = Folder::with_sample().nemod(&["check", "--json", "--segments", "s.drv"]);
+    let start = r#"{"file":"s.drv","status":"accepted","checked":"segments","size":296,"#;
+    assert!(answer.output.starts_with(start), "{}", answer.output);
 }
 
 /// What was refused: the first fault in the file's own members, all of them in

@@ -2,6 +2,7 @@
 
 use super::sections;
 use crate::module::{Module, Segment};
+use crate::run::Folder;
 
 /// The names of an image of so many bytes: `names` strings of two letters, with
 /// bytes in one that a terminal could obey.
@@ -38,6 +39,18 @@ fn rows_have_a_limit() {
     shown(&names(4_096, 65_536), &[], &expected(4_096, ""));
     shown(&names(4_097, 65_536), &[], &expected(4_096, more));
     shown(&names(4_097, 65_536), &["--all"], &expected(4_097, ""));
+}
+
+/// In JSON it is a member that there are more.
+#[test]
+fn rows_have_a_limit_in_json() {
+    let folder = Folder::new();
+    for (length, more) in [(4_096, false), (4_097, true)] {
+        folder.put("file", &names(length, 65_536));
+        let answer = folder.nemod(&["info", "--json", "file"]);
+        assert_eq!(answer.output.matches("\"name\":").count(), 4_096);
+        assert_eq!(answer.output.contains("],\"more_names\":true,"), more);
+    }
 }
 
 /// The entry points of an image that is too long for the listing program.
