@@ -88,8 +88,8 @@ Checks everything of each FILE that is ever read: its header, its entry table,
 its names, the names of its modules, its resources and their data, and each of
 its segments, which is prepared with stand-ins for the addresses, on which no
 refusal depends. A file is accepted only if all of it is. All files are checked,
-whatever is found; but the work on one file has a limit, which only files reach
-that were made for it, and these are not accepted: 'too much work'.",
+whatever is found; but the work on one file has a limit, and a file over it is
+not accepted: 'too much work'.",
         run: check::run,
     },
     Command {

@@ -170,7 +170,7 @@ fn the_most_work() {
 }
 
 /// 65,535 segments that share one chain, and 65,535 that share 65,535 records:
-/// without a limit they take a processor 25 seconds and over a minute.
+/// each file is stopped at the limit, long before its end.
 #[test]
 fn files_that_were_made_to_take_long() {
     let folder = Folder::new();
