@@ -292,7 +292,13 @@ fn an_owner_that_is_not_kept() {
     let folder = Folder::in_temporary_files();
     folder.put("s.drv", &Module::sample().image());
     folder.put("out", b"root's");
-    fs::copy(env!("CARGO_BIN_EXE_nemod"), folder.path("nemod")).expect("a copy");
+    // By another process: one that other tests start while this one has the copy
+    // open for writing would keep it so, and then it could not be run.
+    let copied = Command::new("cp")
+        .arg(env!("CARGO_BIN_EXE_nemod"))
+        .arg(folder.path("nemod"))
+        .status();
+    assert!(copied.expect("a command that runs").success());
     if chown(folder.path("."), Some(65_534), None).is_err() {
         return;
     }
