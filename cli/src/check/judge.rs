@@ -102,7 +102,7 @@ impl Judge {
         }
         if self.scope == Scope::All {
             module.judge_names(verdict);
-            module.judge_resources(verdict, progress)?;
+            module.judge_resources(verdict)?;
         }
         for number in 1..=module.header.segments {
             progress.segment(number, module.header.segments);
@@ -154,18 +154,13 @@ impl Module<'_> {
         }
     }
 
-    fn judge_resources(
-        &mut self,
-        verdict: &mut Verdict,
-        progress: &mut Progress,
-    ) -> Result<(), Stopped> {
+    fn judge_resources(&mut self, verdict: &mut Verdict) -> Result<(), Stopped> {
         if let Err(refusal) = tables::resources(self.image) {
             verdict.add(Part::ResourceTable, refusal.into());
             return Ok(());
         }
         let blocks = tables::blocks_of_resources(self.image, &self.header);
         for number in 1.. {
-            progress.resource(number);
             if !self.work.takes_resource(blocks) {
                 return Err(Stopped(Part::Resource(number)));
             }

@@ -51,13 +51,6 @@ impl Progress {
         }
     }
 
-    /// How many resources there are is not known before the last one.
-    pub fn resource(&mut self, number: u32) {
-        if self.is_due() {
-            self.show(&format!(", resource {number}"));
-        }
-    }
-
     /// Makes room for the lines of a report, if they go to the same terminal.
     pub fn make_room(&mut self) {
         if self.shared {

@@ -36,28 +36,23 @@ nowhere: not read: No such file or directory (os error 2)
 }
 
 /// It is told on standard error, and cleared before the verdict. Work of under a
-/// second needs none: here it takes longer, since the file comes late. The pipe is
-/// opened for writing once the command reads it, so the wait is the command's.
+/// second needs none: here it takes longer, since the file comes late.
 #[test]
 fn progress() {
     let folder = Folder::with_sample();
-    let late = "rm -f pipe; mkfifo pipe; (exec >pipe; sleep 1.2; cat s.drv) &";
-    let told = |part: &str| format!("\r\x1b[K1 of 1: pipe, {part}\r\x1b[K");
-    let verdict = "pipe: \x1b[1;32maccepted\x1b[0m, 2 segments, 4 sites";
-    let table = [
-        ("check pipe", "resource 1"),
-        ("check --segments pipe", "segment 1 of 2"),
-    ];
-    for (check, part) in table {
-        let text = shown(&folder, &format!("{late} \"$NEMOD\" {check}"));
-        let expected = told(part) + verdict;
-        assert!(text.starts_with(&expected), "{check}: {text:?}");
-    }
+    let late = "rm -f pipe; mkfifo pipe; (sleep 1.2; cat s.drv >pipe) &";
+    let verdict = "pipe: \x1b[1;32maccepted\x1b[0m, 2 segments, 4 sites\n";
+    let progress = "\r\x1b[K1 of 1: pipe, segment 1 of 2\r\x1b[K";
+    let text = shown(&folder, &format!("{late} \"$NEMOD\" check pipe"));
+    assert!(
+        text.starts_with(&format!("{progress}{verdict}")),
+        "{text:?}"
+    );
     let quick = shown(&folder, "\"$NEMOD\" check s.drv");
     assert!(!quick.contains("1 of 1"), "{quick:?}");
     // Lines that go elsewhere need no room on the terminal until the end.
     let text = shown(&folder, &format!("{late} \"$NEMOD\" check pipe >out"));
-    assert_eq!(text, told("resource 1"));
+    assert_eq!(text, progress);
     // Without a terminal nothing is told.
     let text = shown(&folder, &format!("{late} \"$NEMOD\" check -q pipe 2>out"));
     assert_eq!((text.as_str(), folder.get("out").as_slice()), ("", &[][..]));
