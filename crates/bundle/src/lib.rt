@@ -1,4 +1,6 @@
 // One bundle of the entry table: what its segment byte says, its entries, and its checks (12, 14, 12, 13).
+#![tactic(auto)]
+
 mod steps;
 
 ghost use Rattle.std.specs.Prelude.{◌≡◌, ◌*◌, ◌≤◌};
@@ -8,14 +10,14 @@ use refusal::Refusal;
 pub use steps::{head_at, kind_of, next};
 
 // What a bundle's segment byte says: its ordinals have no entries, movable entries, or entries in a segment of this number.
-#[derive(Drop)]
+#[derive(Clone, Copy)]
 pub enum Kind {
     Null,
     Movable,
     Fixed(u8),
 }
 
-#[derive(Drop)]
+#[derive(Clone, Copy)]
 pub struct Bundle {
     // How many ordinals the bundles before it use: its own first one is the next.
     pub used: u32,
@@ -27,21 +29,21 @@ pub struct Bundle {
 }
 
 // The two bytes in front of a bundle's entries. A count of 0 ends the table.
-#[derive(Drop)]
+#[derive(Clone, Copy)]
 pub struct Head {
     pub count: u32,
     pub segment: u8,
 }
 
 // What stands at a place of the table: a bundle, the end byte, or why the table is unsound here.
-#[derive(Drop)]
+#[derive(Clone, Copy)]
 pub enum Step {
     Next(Bundle),
     End,
     Refused(Refusal),
 }
 
-#[derive(Drop)]
+#[derive(Clone, Copy)]
 pub struct Entry {
     pub segment: u8,
     pub offset: u16,
@@ -49,7 +51,7 @@ pub struct Entry {
 }
 
 // What an ordinal answers.
-#[derive(Drop)]
+#[derive(Clone, Copy)]
 pub enum Answer {
     Accepted(Entry),
     Refused(Refusal),

@@ -7,6 +7,7 @@ use crate::{Bundle, Head, Kind, Step, width};
 use refusal::Refusal;
 
 // What a segment byte says.
+#[tactic(auto, unfolding(crate::specs::Bundle::kind_of))]
 pub fn kind_of(segment: u8) -> Kind
     ensures { result ≡ kind_of segment }
 {
@@ -34,6 +35,7 @@ pub fn head_at(table: &[u8], at: usize) -> Head
 }
 
 // The bundle at a place of the table, where `used` ordinals come before it and the module has this many segments.
+#[tactic(auto, unfolding(crate::specs::Bundle::step_of, crate::specs::Bundle::bundle_at, crate::specs::Bundle::bundle_checks))]
 pub fn next(table: &[u8], segments: u32, at: usize, used: u32) -> Step
     ensures { result ≡ step_of table.now segments at used }
 {

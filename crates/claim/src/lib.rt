@@ -1,4 +1,6 @@
 // Marks: a byte for each byte of a segment, which is not 0 where a span has the byte. A span is claimed in them.
+#![tactic(auto)]
+
 mod bytes;
 mod inside;
 
@@ -6,7 +8,7 @@ ghost use Rattle.std.specs.Prelude.{◌≡◌};
 ghost use Rattle.claim.specs.Internal.{claim_of, marks_after};
 
 // Whether a span could be claimed.
-#[derive(Drop)]
+#[derive(Clone, Copy)]
 pub enum Answer {
     Claimed,
     // It passes the end of the marks.

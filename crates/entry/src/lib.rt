@@ -1,6 +1,8 @@
 // The entry table: what an ordinal stands for, or the refusal (12 to 15).
 //
 // One walk, bundle by bundle, checks the table for all who read it. Whoever knows that it is sound goes from head to head instead.
+#![tactic(auto)]
+
 mod heads;
 mod index;
 mod slots;
@@ -17,26 +19,27 @@ use refusal::Refusal;
 pub use whole::walk;
 
 // Where an ordinal's entry stands, counted from the table's start; of the kind `Null` where it has none.
-#[derive(Drop)]
+#[derive(Clone, Copy)]
 pub struct Slot {
     pub kind: Kind,
     pub at: usize,
 }
 
 // What a walk of the whole table finds: how many ordinals it has, and the slot of the one asked for.
-#[derive(Drop)]
+#[derive(Clone, Copy)]
 pub struct Found {
     pub ordinals: u32,
     pub slot: Slot,
 }
 
-#[derive(Drop)]
+#[derive(Clone, Copy)]
 pub enum Walked {
     Sound(Found),
     Unsound(Refusal),
 }
 
 // What an ordinal stands for.
+#[tactic(auto, unfolding(crate::specs::Ordinal::ordinal_of))]
 pub fn by_ordinal(image: &[u8], number: u32) -> Answer
     ensures { result ≡ ordinal_of image.now number }
 {
@@ -48,6 +51,7 @@ pub fn by_ordinal(image: &[u8], number: u32) -> Answer
 }
 
 // The same once the header is known: refusals 12 to 15.
+#[tactic(auto, unfolding(crate::specs::Ordinal::ordinal_in))]
 pub fn in_table(image: &[u8], h: Header, number: u32) -> Answer
     ensures { result ≡ ordinal_in image.now h number }
 {

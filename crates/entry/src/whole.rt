@@ -7,6 +7,7 @@ use crate::{Found, Slot, Walked, slots};
 use bundle::{Kind, Step};
 
 // Walks a table to its end byte, for a module of this many segments, and finds the slot of one ordinal on the way.
+#[tactic(auto, unfolding(crate::specs::Table::ordinals_in, crate::proofs::Follow::last_in))]
 pub fn walk(table: &[u8], segments: u32, number: u32) -> Walked
     ensures { result ≡ walk_of (table_of table.now segments) number }
 {

@@ -1,9 +1,11 @@
 // A fixup record: its fields, and its target (22, 23). The types and their theory; `target` has the code.
+#![tactic(auto)]
+
 use refusal::Refusal;
 use site::Kind;
 
 // The fields of a record. Of the type and the flag only the bits that count are kept.
-#[derive(Drop)]
+#[derive(Clone, Copy)]
 pub struct Record {
     pub kind: u8,
     pub flags: u8,
@@ -13,7 +15,7 @@ pub struct Record {
 }
 
 // What a record's type stands for.
-#[derive(Drop)]
+#[derive(Clone, Copy)]
 pub enum Typed {
     Known(Kind),
     Unknown,
@@ -21,7 +23,7 @@ pub enum Typed {
 
 // What a record's target words name: an offset in a segment of the module, an import, nothing (an OS fixup), or nothing that
 // is there. A type of the meaning alone: the code goes from the words to the action.
-#[derive(Drop)]
+#[derive(Clone, Copy)]
 pub enum Target {
     Segment(u8, u16),
     Import,

@@ -1,4 +1,6 @@
 // The sites of a record in one pass: each is claimed in the marks (24, 25, 26) and written, and tells the next.
+#![tactic(auto)]
+
 mod sites;
 
 ghost use Rattle.std.specs.Prelude.{◌≡◌, length};
@@ -8,7 +10,7 @@ use refusal::Refusal;
 use site::Action;
 
 // What going over the sites of a record gives: how many sites there are so far, or the refusal.
-#[derive(Drop)]
+#[derive(Clone, Copy)]
 pub enum Answer {
     Ended(u32),
     Halted(Refusal),

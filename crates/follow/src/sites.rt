@@ -8,7 +8,7 @@ use refusal::Refusal;
 use site::Fixup;
 
 // What a site gives: that it is the last of its record, or the place of the next one, or the refusal.
-#[derive(Drop)]
+#[derive(Clone, Copy)]
 pub enum Site {
     Last,
     Next(u16),

@@ -1,4 +1,6 @@
 // The MZ and NE headers: where every table of a module stands, or why the image is refused (1 to 7).
+#![tactic(auto)]
+
 ghost use Rattle.std.specs.Prelude.{◌≡◌, ◌+◌, ◌≤◌, ◌<◌, ◌^◌};
 ghost use Rattle.checks.specs.Checks.{decide};
 ghost use Rattle.header.specs.Header.{header_of, ne_checks, table_checks, tables_of, field_of, leaves, lacks};
@@ -6,14 +8,14 @@ ghost use Rattle.header.specs.Header.{header_of, ne_checks, table_checks, tables
 use refusal::Refusal;
 
 // A table of `count` elements from the place `at` on, counted from the file's start.
-#[derive(Drop)]
+#[derive(Clone, Copy)]
 pub struct Table {
     pub at: u32,
     pub count: u32,
 }
 
 // Where everything stands. All places count from the file's start.
-#[derive(Drop)]
+#[derive(Clone, Copy)]
 pub struct Header {
     pub ne: u32,
     // The bytes of a sector: 2 to the alignment shift.
@@ -28,13 +30,14 @@ pub struct Header {
     pub resources: u32,
 }
 
-#[derive(Drop)]
+#[derive(Clone, Copy)]
 pub enum Answer {
     Accepted(Header),
     Refused(Refusal),
 }
 
 // Reads and checks the headers of an image.
+#[tactic(auto, unfolding(crate::specs::Header::header_of, crate::specs::Header::header_checks))]
 pub fn read(image: &[u8]) -> Answer
     ensures { result ≡ header_of image.now }
 {

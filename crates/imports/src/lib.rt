@@ -1,4 +1,6 @@
 // Module references, and the strings in the imported names (8, 16).
+#![tactic(auto)]
+
 ghost use Rattle.std.specs.Prelude.{◌≡◌};
 ghost use Rattle.imports.specs.Module.{string_at, reference_of, module_of};
 
@@ -6,27 +8,28 @@ use header::Header;
 use refusal::Refusal;
 
 // A text: the place of its first byte, counted from the file's start, and its length.
-#[derive(Drop)]
+#[derive(Clone, Copy)]
 pub struct Text {
     pub at: usize,
     pub len: u8,
 }
 
 // A string in the imported names. What an unsound one means is for its reader to say.
-#[derive(Drop)]
+#[derive(Clone, Copy)]
 pub enum Imported {
     Sound(Text),
     Unsound,
 }
 
 // What a module reference answers.
-#[derive(Drop)]
+#[derive(Clone, Copy)]
 pub enum Answer {
     Accepted(Text),
     Refused(Refusal),
 }
 
 // The name of the module of a number.
+#[tactic(auto, unfolding(crate::specs::Module::module_of))]
 pub fn by_number(image: &[u8], number: u32) -> Answer
     ensures { result ≡ module_of image.now number }
 {
@@ -38,6 +41,7 @@ pub fn by_number(image: &[u8], number: u32) -> Answer
 }
 
 // The string at a place, counted from the imported names.
+#[tactic(auto, unfolding(crate::specs::Module::string_at))]
 pub fn string(image: &[u8], h: Header, place: u16) -> Imported
     ensures { result ≡ string_at image.now h place }
 {
@@ -57,6 +61,7 @@ pub fn string(image: &[u8], h: Header, place: u16) -> Imported
 }
 
 // The module of a number once the header is known.
+#[tactic(auto, unfolding(crate::specs::Module::reference_of))]
 fn reference(image: &[u8], h: Header, number: u32) -> Answer
     ensures { result ≡ reference_of image.now h number }
 {

@@ -2,6 +2,8 @@
 //
 // Every reader answers for every place: a byte past the end counts as 0. So no caller has to show that a place lies
 // inside, and a check of a place can be stated by itself. `inside` has those that need no test.
+#![tactic(auto)]
+
 pub mod inside;
 pub mod slice;
 

@@ -1,50 +1,67 @@
 // Writes the listing of a module: of the file that its argument names, or of standard input without one. What can't be read
 // gives one line on standard error.
-use libc::{STDIN_FILENO, STDOUT_FILENO};
+#![tactic(auto)]
+
+ghost use Rattle.std.specs.Prelude.{◌≤◌, length, IfOk};
+
+use std::env::{Env, FillError};
+use std::fs::File;
+use std::io::{self, ErrorKind, Read};
+
+// The longest path that the system opens, in bytes.
+const PATH_MAX: usize = 4096;
 
 // The listing of an image. None is longer than this array.
-fn show(image: &[u8]) {
+fn show(rt: &HostRuntime, image: &[u8]) -> io::Result<()> {
     let mut out = [0u8; 458771];
     let n = listing::write(image, &mut out);
-    io::write_all(STDOUT_FILENO, &out[..n]);
+    rt.write_all(&out[..n])
 }
 
-// Whether an input has ended. `io::read_full` stops at the end and at a failure alike, but only at the end is there nothing
-// more to read.
-fn ended(fd: i32) -> bool {
-    let mut more = [0u8; 1];
-    libc::read(fd, &mut more) == 0
-}
-
-// The listing of what can be read. A byte more than the longest image that is listed is enough to know that one is too long.
-fn list(fd: i32) {
-    let mut image = [0u8; 65537];
-    let n = io::read_full(fd, &mut image);
-    if n < 65537 {
-        if !ended(fd) {
-            os::fail(b"list");
-            return;
+// Reads until the input ends or `image` is full, and answers how many bytes were read.
+fn fill<R: Read>(input: &mut R, image: &mut [u8]) -> io::Result<usize>
+    ensures { IfOk result (λ n. n ≤ length image.new) }
+{
+    let mut n = 0;
+    while n < image.len() {
+        let more = input.read(&mut image[n..])?;
+        if more == 0 {
+            break;
         }
+        n += more;
     }
-    show(&image[..n]);
+    Ok(n)
 }
 
-fn main() {
-    if os::arg_count() < 2 {
-        list(STDIN_FILENO);
-        return;
+// Reads the file that the argument names, or standard input without one.
+fn read(rt: &HostRuntime, image: &mut [u8]) -> io::Result<usize>
+    ensures { IfOk result (λ n. n ≤ length image.new) }
+{
+    let mut path = [0u8; PATH_MAX];
+    match rt.arg(1, &mut path) {
+        Err(FillError::NotPresent) => fill(&mut rt.stdin(), image),
+        Err(FillError::TooLong) => Err(io::Error::from(ErrorKind::InvalidInput)),
+        Ok(n) => match std::str::from_utf8(&path[..n]) {
+            Err(_) => Err(io::Error::from(ErrorKind::InvalidInput)),
+            Ok(path) => fill(&mut File::open(rt, path)?, image),
+        },
     }
-    let mut path = io::buffer();
-    let length = os::arg(1, &mut path);
-    if os::errno() != 0 {
-        os::fail(b"list");
-        return;
+}
+
+// What failed, in the system's words, without the system's number of it.
+fn tell(rt: &HostRuntime, error: io::Error) -> io::Result<()> {
+    let words = format!(in rt.alloc(); "{error}")?;
+    match words.as_str().split_once(" (os error ") {
+        Some((words, _)) => eprintln!(rt; "list: {words}"),
+        None => eprintln!(rt; "list: {words}"),
     }
-    let fd = os::open_read(&path[..length]);
-    if fd < 0 {
-        os::fail(b"list");
-        return;
+}
+
+// A byte more than the longest image that is listed is enough to know that one is too long.
+fn main(rt: HostRuntime) -> io::Result<()> {
+    let mut image = [0u8; 65537];
+    match read(&rt, &mut image) {
+        Ok(n) => show(&rt, &image[..n]),
+        Err(error) => tell(&rt, error),
     }
-    list(fd);
-    libc::close(fd);
 }

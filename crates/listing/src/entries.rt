@@ -11,6 +11,7 @@ use entry::Walked;
 use header::Header;
 
 // The count, the lines and the last line, or the refusal of the table.
+#[tactic(auto, unfolding(crate::specs::Listing::entries_of))]
 pub fn list(image: &[u8], h: Header, out: &mut [u8]) -> usize
     ensures { Wrote out.old 0 (entries_of image.now h) out.new result }
 {
@@ -27,6 +28,7 @@ pub fn list(image: &[u8], h: Header, out: &mut [u8]) -> usize
 }
 
 // The lines of all bundles of a sound table.
+#[tactic(auto, unfolding(crate::specs::Internal::bundles_lines))]
 fn bundles(table: &[u8], segments: u32, out: &mut [u8], at: usize) -> usize
     requires { (is_sound (table_of table.now segments) ≡ true) × (at < 100) }
     ensures { Wrote out.old at (table_lines table.now (table_of table.now segments)) out.new result × (result ≤ at + 20 * 65535) }
@@ -53,6 +55,7 @@ fn bundles(table: &[u8], segments: u32, out: &mut [u8], at: usize) -> usize
 }
 
 // The lines of one bundle.
+#[tactic(auto, unfolding(crate::specs::Internal::slot_lines))]
 fn bundle(table: &[u8], b: Bundle, out: &mut [u8], at: usize) -> usize
     requires { (b.used + b.count ≤ 65535) × (b.at + width_of b.kind * b.count ≤ length table.now) × (at < 2 ^ 31) }
     ensures { Wrote out.old at (bundle_lines table.now b) out.new result × (result ≤ at + 20 * b.count) }

@@ -26,6 +26,7 @@ pub fn ordinal(out: &mut [u8], at: usize, number: u32, answer: Answer) -> usize
     }
 }
 
+#[tactic(auto, unfolding(crate::specs::Listing::line_of))]
 fn line(out: &mut [u8], at: usize, number: u32, e: Entry) -> usize
     requires { at < 2 ^ 32 }
     ensures { Wrote out.old at (line_of number e) out.new result × (result ≤ at + 20) }

@@ -46,6 +46,7 @@ pub fn number(out: &mut [u8], at: usize, base: u32, width: u32, n: u32, end: u8)
 }
 
 // How many digits a number has in decimal.
+#[tactic(auto, unfolding(crate::specs::Text::decimal_width))]
 fn decimal_width(n: u32) -> u32
     ensures { (result ≡ decimal_width n) × (result ≤ 5) }
 {
@@ -77,6 +78,7 @@ fn digits(out: &mut [u8], at: usize, base: u32, width: u32, n: u32) -> usize
 }
 
 // A digit up to 15.
+#[tactic(auto, unfolding(crate::specs::Text::digit_of))]
 fn digit(d: u32) -> u8
     requires { d < 16 }
     ensures { result ≡ digit_of d }

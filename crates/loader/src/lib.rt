@@ -1,4 +1,6 @@
 // Preparing a segment, and document 01's step, on buffers that are lent.
+#![tactic(auto)]
+
 mod apply;
 mod fill;
 mod records;
@@ -33,6 +35,7 @@ pub fn prepare(
 
 // Document 01's step of one record, given by its 8 bytes with its own import answer. The image is read for its target alone; where that
 // doesn't resolve the buffer stays as it came.
+#[tactic(auto, unfolding(prepare::specs::Step::step_of))]
 pub fn step(image: &[u8], fixup: &[u8; 8], answer: u32, selectors: &[u16], buffer: &mut [u8])
     ensures { buffer.new ≡ step_of image.now selectors.now (one_of fixup.now answer) buffer.old }
 {

@@ -1,6 +1,8 @@
 // The resident and nonresident names: a name by its number or by its bytes, or the refusal (16, 8 or 17).
 //
 // One walk checks a whole list and finds what is asked for on its way.
+#![tactic(auto)]
+
 mod list;
 mod text;
 
@@ -12,7 +14,7 @@ use header::Header;
 use list::Extent;
 use refusal::Refusal;
 
-#[derive(Drop)]
+#[derive(Clone, Copy)]
 pub struct Name {
     // Counted from 1, the resident list first.
     pub number: usize,
@@ -23,35 +25,35 @@ pub struct Name {
 }
 
 // What a request for a name answers.
-#[derive(Drop)]
+#[derive(Clone, Copy)]
 pub enum Answer {
     Accepted(Name),
     Refused(Refusal),
 }
 
 // What is asked for: a number, or the bytes that are handed over beside the request.
-#[derive(Drop)]
+#[derive(Clone, Copy)]
 enum Request {
     Number(u32),
     Bytes,
 }
 
 // What a search has found.
-#[derive(Drop)]
+#[derive(Clone, Copy)]
 enum Match {
     Found(Name),
     Nothing,
 }
 
 // How far a search has come: how many names are behind it, and what was found.
-#[derive(Drop)]
+#[derive(Clone, Copy)]
 struct Progress {
     pub used: usize,
     pub found: Match,
 }
 
 // What a walk of a whole list answers.
-#[derive(Drop)]
+#[derive(Clone, Copy)]
 enum Walked {
     Sound(Progress),
     Unsound(Refusal),
@@ -78,6 +80,7 @@ pub fn by_bytes(image: &[u8], name: &[u8]) -> Answer
 }
 
 // What is asked for; where the lists haven't got it, the refusal `none`.
+#[tactic(auto, unfolding(crate::specs::Internal::answer_of))]
 fn ask(image: &[u8], request: Request, name: &[u8], none: Refusal) -> Answer
     ensures { result ≡ answer_of image.now request name.now none }
 {
@@ -89,6 +92,7 @@ fn ask(image: &[u8], request: Request, name: &[u8], none: Refusal) -> Answer
 }
 
 // The same once the header is known: the resident list, which ends inside the image, then the nonresident one.
+#[tactic(auto, unfolding(crate::specs::Internal::answer_in))]
 fn in_lists(image: &[u8], h: Header, request: Request, name: &[u8], none: Refusal) -> Answer
     ensures { result ≡ answer_in image.now h request name.now none }
 {
@@ -109,6 +113,7 @@ fn in_lists(image: &[u8], h: Header, request: Request, name: &[u8], none: Refusa
 }
 
 // The nonresident list, which ends inside its byte count, behind what the resident list gave.
+#[tactic(auto, unfolding(crate::specs::Internal::answer_behind, tables::specs::Query::first_of))]
 fn in_nonresident(
     image: &[u8],
     h: Header,

@@ -7,7 +7,7 @@ use crate::{Match, Name, Progress, Request, Walked, text};
 use refusal::Refusal;
 
 // Where a list starts, the place behind which nothing of it may lie, and why it is refused where something does.
-#[derive(Drop)]
+#[derive(Clone, Copy)]
 pub struct Extent {
     pub at: usize,
     pub limit: usize,
@@ -15,6 +15,7 @@ pub struct Extent {
 }
 
 // Walks a list to its end byte, and finds what is asked for on the way, unless it was found before.
+#[tactic(auto, unfolding(tables::specs::Query::first_of))]
 pub fn walk(image: &[u8], e: Extent, before: Progress, request: Request, name: &[u8]) -> Walked
     requires { (e.limit < 2 ^ 63) × (before.used < 2 ^ 63) }
     ensures { result ≡ walk_of image.now (list_from image.now e.limit e.why e.at before.used) before request name.now }

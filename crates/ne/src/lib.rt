@@ -1,4 +1,6 @@
 // The C interface: each function asks the library and hands its answer over as numbers (`include/ne.h`).
+#![tactic(auto)]
+
 mod results;
 
 ghost use Rattle.std.specs.Prelude.{◌≡◌, length};

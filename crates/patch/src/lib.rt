@@ -1,4 +1,6 @@
 // A fixup at one of its sites: how wide its span is there, and the bytes that it writes.
+#![tactic(auto)]
+
 mod bytes;
 
 ghost use Rattle.std.specs.Prelude.{◌≡◌, ◌+◌, ◌≤◌, length};

@@ -8,6 +8,7 @@ use refusal::Refusal;
 use segment::Answer;
 
 // The segment of a number: 8, the whole entry table's 12 to 14, then 10, 11 and 9.
+#[tactic(auto, unfolding(crate::specs::Internal::found_of))]
 pub fn segment(image: &[u8], h: Header, number: u32) -> Answer
     ensures { result ≡ found_of image.now h number }
 {

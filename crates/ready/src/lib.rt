@@ -1,5 +1,7 @@
 // What preparing checks before it looks at the records: the image, the segment's number, the entry table, the segment's record and
 // the sizes of what is lent (1 to 14 and 21).
+#![tactic(auto)]
+
 mod found;
 
 ghost use Rattle.std.specs.Prelude.{◌≡◌};
@@ -10,7 +12,7 @@ use header::Header;
 use refusal::Refusal;
 use segment::Segment;
 
-#[derive(Drop)]
+#[derive(Clone, Copy)]
 pub enum Answer {
     Passed(Header, Segment),
     Refused(Refusal),
@@ -41,6 +43,7 @@ pub fn check(
 }
 
 // The sizes of what is lent: 21.
+#[tactic(auto, unfolding(crate::specs::Internal::sized_of, prepare::specs::Prepare::size_checks))]
 fn sized(
     h: Header,
     s: Segment,

@@ -1,9 +1,11 @@
 // Why a request is refused, and the number that document 01 gives for it.
+#![tactic(auto)]
+
 ghost use Rattle.std.specs.Prelude.{◌≡◌};
 ghost use Rattle.refusal.specs.Number.{number_of};
 
 // One case for each thing that can be wrong, in the order of the numbers. Cases that share a number are kept apart.
-#[derive(Drop)]
+#[derive(Clone, Copy)]
 pub enum Refusal {
     ImageShort,
     ImageLong,

@@ -6,7 +6,7 @@ ghost use Rattle.resources.specs.Internal.{Whole, has_number, has_id, or_else, w
 
 use crate::{Match, Request, Resource};
 
-#[derive(Drop)]
+#[derive(Clone, Copy)]
 pub struct Block {
     pub kind: u16,
     // The shift of the table's offsets and lengths.
@@ -73,6 +73,7 @@ fn of_words(image: &[u8], b: Block, kind: u32, id: u32) -> Match
 }
 
 // The first resource with this id word.
+#[tactic(auto, unfolding(crate::specs::Resource::resource_at, tables::specs::Query::first_of, crate::specs::Resource::resources_from))]
 fn of_id(image: &[u8], b: Block, id: u32) -> Match
     requires { Whole image.now b }
     ensures { result ≡ first_of (has_id id) Match.Found Match.Nothing (block_resources image.now b) }
@@ -96,6 +97,7 @@ fn high_bit(word: u32) -> bool
 }
 
 // The resource of an index, counted from 0 in its block.
+#[tactic(auto, unfolding(crate::specs::Resource::resource_at))]
 fn read(image: &[u8], b: Block, index: usize) -> Resource
     requires { Whole image.now b × (index < b.count) }
     ensures { result ≡ resource_at image.now b index }

@@ -1,6 +1,8 @@
 // The resource table: a resource by its number or by its two words, or the refusal (18, 8 or 19, 20).
 //
 // One walk, block by block, checks the whole table and finds what is asked for on its way.
+#![tactic(auto)]
+
 mod block;
 mod table;
 
@@ -11,7 +13,7 @@ ghost use Rattle.resources.specs.Internal.{answer_of, answer_in, concluded};
 use header::Header;
 use refusal::Refusal;
 
-#[derive(Drop)]
+#[derive(Clone, Copy)]
 pub struct Resource {
     // Counted from 1 in file order, all types together.
     pub number: usize,
@@ -25,28 +27,28 @@ pub struct Resource {
 }
 
 // What a request for a resource answers.
-#[derive(Drop)]
+#[derive(Clone, Copy)]
 pub enum Answer {
     Accepted(Resource),
     Refused(Refusal),
 }
 
 // What is asked for: a number, or a type word and an id word.
-#[derive(Drop)]
+#[derive(Clone, Copy)]
 enum Request {
     Number(u32),
     Words(u32, u32),
 }
 
 // What a search has found.
-#[derive(Drop)]
+#[derive(Clone, Copy)]
 enum Match {
     Found(Resource),
     Nothing,
 }
 
 // What a walk of the whole table answers.
-#[derive(Drop)]
+#[derive(Clone, Copy)]
 enum Walked {
     Sound(Match),
     Unsound(Refusal),
@@ -67,6 +69,7 @@ pub fn by_words(image: &[u8], kind: u32, id: u32) -> Answer
 }
 
 // What is asked for; where the table hasn't got it, the refusal `none`.
+#[tactic(auto, unfolding(crate::specs::Internal::answer_of))]
 fn ask(image: &[u8], request: Request, none: Refusal) -> Answer
     ensures { result ≡ answer_of image.now request none }
 {
@@ -78,6 +81,7 @@ fn ask(image: &[u8], request: Request, none: Refusal) -> Answer
 }
 
 // The same once the header is known.
+#[tactic(auto, unfolding(crate::specs::Internal::answer_in, tables::specs::Query::first_of))]
 fn in_table(image: &[u8], h: Header, request: Request, none: Refusal) -> Answer
     ensures { result ≡ answer_in image.now h request none }
 {
@@ -101,6 +105,7 @@ fn in_table(image: &[u8], h: Header, request: Request, none: Refusal) -> Answer
 }
 
 // The answer for what was found: data that leaves an image of `len` bytes is refused.
+#[tactic(auto, unfolding(crate::specs::Resource::data_checked))]
 fn conclude(len: usize, found: Match, none: Refusal) -> Answer
     ensures { result ≡ concluded len found none }
 {

@@ -8,6 +8,7 @@ use crate::{Match, Request, Walked, block};
 use refusal::Refusal;
 
 // Walks the blocks from a place on to the type 0 that ends them, and finds what is asked for on the way.
+#[tactic(auto, unfolding(tables::specs::Query::first_of))]
 pub fn walk(image: &[u8], shift: u16, start: usize, request: Request) -> Walked
     requires { (shift ≤ 15) × (start < 2 ^ 63) }
     ensures { result ≡ walk_of (blocks_from image.now shift start) request }

@@ -1,4 +1,6 @@
 // A segment's record in the segment table: its stored bytes, its allocation and its record list, or the refusal.
+#![tactic(auto)]
+
 mod fields;
 
 ghost use Rattle.std.specs.Prelude.{◌≡◌};
@@ -7,7 +9,7 @@ ghost use Rattle.segment.specs.Segment.{segment_of, record_of};
 use header::Header;
 use refusal::Refusal;
 
-#[derive(Drop)]
+#[derive(Clone, Copy)]
 pub struct Segment {
     // The place of the stored bytes, and how many there are.
     pub start: usize,
@@ -19,13 +21,14 @@ pub struct Segment {
     pub list: usize,
 }
 
-#[derive(Drop)]
+#[derive(Clone, Copy)]
 pub enum Answer {
     Accepted(Segment),
     Refused(Refusal),
 }
 
 // The segment of a number, counted from 1.
+#[tactic(auto, using(header::proofs::Numbered::has), unfolding(crate::specs::Segment::segment_of))]
 pub fn by_number(image: &[u8], number: u32) -> Answer
     ensures { result ≡ segment_of image.now number }
 {
@@ -42,6 +45,7 @@ pub fn by_number(image: &[u8], number: u32) -> Answer
 }
 
 // The segment whose record has an index, counted from 0, once the number is known good: refusals 10, 11 and 9.
+#[tactic(auto, unfolding(crate::specs::Segment::record_of, crate::specs::Segment::segment_checks))]
 pub fn record(image: &[u8], h: Header, index: u32) -> Answer
     ensures { result ≡ record_of image.now h index }
 {

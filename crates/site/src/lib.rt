@@ -1,9 +1,11 @@
 // A fixup whose target is known: its sites, their spans, what is written there, and document 01's step. The types and their theory;
 // `claim`, `patch`, `follow` and `step` have the code.
+#![tactic(auto)]
+
 use refusal::Refusal;
 
 // What a fixup writes at a site.
-#[derive(Drop)]
+#[derive(Clone, Copy)]
 pub enum Kind {
     LowByte,
     Selector,
@@ -12,7 +14,7 @@ pub enum Kind {
 }
 
 // A fixup, with the address that its target resolved to.
-#[derive(Drop)]
+#[derive(Clone, Copy)]
 pub struct Fixup {
     pub kind: Kind,
     pub additive: bool,
@@ -23,7 +25,7 @@ pub struct Fixup {
 }
 
 // What a record asks for: nothing (an OS fixup), a fixup, or nothing that can be done.
-#[derive(Drop)]
+#[derive(Clone, Copy)]
 pub enum Action {
     Skip,
     Apply(Fixup),

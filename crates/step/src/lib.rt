@@ -1,4 +1,6 @@
 // Document 01's step of one record: its sites as a buffer tells them, each written there.
+#![tactic(auto)]
+
 ghost use Rattle.std.specs.Prelude.{◌≡◌, length};
 ghost use Rattle.site.specs.Step.{step_of, step_from};
 

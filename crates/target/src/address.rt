@@ -25,6 +25,7 @@ pub fn of_entry(selectors: &[u16], r: Record, kind: Kind, entry: Answer) -> Acti
 }
 
 // That of a record which is not by ordinal.
+#[tactic(auto, unfolding(fixup::specs::Target::target_of, fixup::specs::Target::internal_target))]
 pub fn of_other(
     image: &[u8],
     h: Header,

@@ -1,4 +1,6 @@
 // What a fixup record asks for, once the selectors and its import answer are known: its type (22), then its target (23).
+#![tactic(auto)]
+
 mod address;
 mod read;
 
@@ -18,6 +20,7 @@ use refusal::Refusal;
 use site::{Action, Kind};
 
 // What a record asks for, where the entry table is known to be sound and there is an index of it.
+#[tactic(auto, unfolding(entry::specs::Ordinal::ordinal_in))]
 pub fn action(
     image: &[u8],
     h: Header,
@@ -58,6 +61,7 @@ fn by_ordinal(r: Record) -> bool
 }
 
 // What a record's type stands for.
+#[tactic(auto, unfolding(fixup::specs::Record::typed_of))]
 fn typed(kind: u8) -> Typed
     ensures { result ≡ typed_of kind }
 {
@@ -83,6 +87,7 @@ fn to_entry(selectors: &[u16], r: Record, entry: Answer) -> Action
 }
 
 // What a record of another kind asks for. Nothing of the entry table is looked at.
+#[tactic(auto, unfolding(fixup::specs::Action::action_of))]
 fn to_other(image: &[u8], h: Header, selectors: &[u16], answer: u32, r: Record) -> Action
     requires { by_ordinal r ≡ false }
     ensures { result ≡ action_of image.now h selectors.now answer r }

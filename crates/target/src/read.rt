@@ -5,6 +5,7 @@ ghost use Rattle.fixup.specs.Record.{record_at};
 use fixup::Record;
 
 // The fields of the record that starts at the first byte.
+#[tactic(auto, unfolding(fixup::specs::Record::record_at))]
 pub fn fields(bytes: &[u8]) -> Record
     ensures { result ≡ record_at bytes.now 0 }
 {

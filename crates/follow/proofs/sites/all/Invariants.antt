@@ -1,0 +1,17 @@
+-- `follow::sites::all` meets its contract. The loop's invariant: the pass from here on is the pass from the start on.
+-- Assumes nothing.
+use mathlib.Core.Path.{◌≡◌, ◌∙◌, refl, ap}
+use Prim.Native.Nat.{ℕ, ◌<◌}
+use native.Mathlib.Omega.{arith}
+use native.Mathlib.Numerals.{add-one}
+use borrow.Author.Rules.{rules}
+use lib.ListN.{length}
+use Rattle.follow.specs.Internal.{passed, pass_from, fuel}
+use Rattle.follow.specs.declared.Answer.TheVariants.{Ended}
+use Rattle.follow.proofs.sites.all.Given as goal
+
+abbrev pub invariant-loop-why : goal.invariant-loop-why
+invariant-loop-why l = (length l.marks ≡ length l.initial.marks) × (length l.bytes ≡ length l.initial.bytes) × (pass_from (fuel l.count) l.stored l.f l.at l.count l.marks l.bytes ≡ pass_from (fuel l.done) l.stored l.f l.f.site l.done l.initial.marks l.initial.bytes)
+
+abbrev pub decreases-loop-why : goal.decreases-loop-why
+decreases-loop-why l = fuel l.count

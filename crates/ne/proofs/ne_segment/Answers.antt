@@ -1,0 +1,14 @@
+-- `ne::ne_segment` meets its contract: each arm hands the answer's numbers over, and an accepted start lies in the image,
+-- so it fits.
+-- Assumes nothing.
+use mathlib.Core.Path.{sym, ◌∙◌}
+use native.Mathlib.Omega.{arith}
+use Rattle.segment.proofs.Bounds.{accepted}
+use borrow.Author.Rules.{rules}
+use Rattle.ne.proofs.ne_segment.Goals as goal
+
+pub overflow_cast-start : goal.overflow_cast-start
+overflow_cast-start c =
+    let a = c.args in
+    let h = accepted a.image.now a.number c.in-Accepted.s (sym c.by_number-answer.ensures ∙ c.in-Accepted.is) in
+    omega (arith, h.0, h.1.stored)

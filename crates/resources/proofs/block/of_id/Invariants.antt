@@ -1,0 +1,20 @@
+-- `resources::block::of_id` meets its contract. The loop's invariant: the resources that are left decide what all of them do.
+-- Assumes nothing.
+use mathlib.Core.Path.{◌≡◌, ◌∙◌, sym, ap}
+use mathlib.Core.Bool.{true, false, cond}
+use Prim.Native.Nat.{suc, ◌+◌, ◌-◌, ◌≤◌, ◌<◌}
+use native.Mathlib.Omega.{arith}
+use borrow.Author.Rules.{rules}
+use borrow.Author.Tests.{eq-eqb, ne_eqb}
+use lib.Dec.{eqb}
+use Rattle.tables.specs.Query.{first_of}
+use Rattle.resources.specs.declared.Match.TheVariants.{Found}
+use Rattle.resources.specs.Resource.{resource_at, resources_from}
+use Rattle.resources.proofs.InBlock.{idFrom, one_more}
+use Rattle.resources.proofs.block.of_id.Given as goal
+
+abbrev pub invariant-loop-index : goal.invariant-loop-index
+invariant-loop-index l = (l.index ≤ l.b.count) × (idFrom l.image l.b l.id (l.b.count - l.index) l.index ≡ idFrom l.image l.b l.id l.b.count 0)
+
+abbrev pub decreases-loop-index : goal.decreases-loop-index
+decreases-loop-index l = l.b.count - l.index
