@@ -51,7 +51,7 @@ target/proved-from: FORCE
 	@$(call update,$@.now)
 
 $(PROVED)/libne.a: target/proved-from
-	rt staticlib ne
+	.ci/build-library
 
 $(BUILD)/libne.a: $(if $(NE_LIB_DIR),,$(PROVED)/libne.a) FORCE | $(BUILD)
 	@$(call update,"$(ARCHIVE)")
@@ -69,9 +69,10 @@ $(BUILD)/$(SHARED): $(BUILD)/libne.a $(BUILD)/ne.map | compiler
 	$(CC) -shared $(LDFLAGS) -Wl,-soname,$(SONAME),-z,defs,-z,relro,-z,now -o $@ \
 	    -Wl,--no-undefined-version,--version-script=$(BUILD)/ne.map -Wl,--whole-archive $< -Wl,--no-whole-archive
 
+# The other names are no symbolic links, which `rt ci` refuses anywhere in the repository.
 $(BUILD)/libne.so: $(BUILD)/$(SHARED)
-	ln -sf $(SHARED) $(BUILD)/$(SONAME)
-	ln -sf $(SONAME) $@
+	ln -f $< $(BUILD)/$(SONAME)
+	ln -f $< $@
 
 # The folders may differ from one make to the next, and spaces may be in them. The `=` stands for a folder's start.
 in_prefix = $(subst =$(PREFIX)/,=$${prefix}/,=$(1))
@@ -128,6 +129,6 @@ help:
 	@echo 'make install     to PREFIX ($(PREFIX)), under DESTDIR; BINDIR, LIBDIR, INCLUDEDIR, MANDIR and COMPLETIONDIR'
 	@echo '                 can be said too'
 	@echo 'make uninstall   removes what was installed there'
-	@echo 'make test        every proof and every test, from nothing (.ci/run)'
+	@echo 'make test        every proof and every test (.ci/run)'
 	@echo 'make clean       removes build/'
 	@echo 'NE_LIB_DIR=FOLDER makes all but the test with the libne.a of that folder, and proves nothing'

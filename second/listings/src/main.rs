@@ -52,6 +52,6 @@ fn main() -> ExitCode {
 fn usual_path() -> PathBuf {
     PathBuf::from(concat!(
         env!("CARGO_MANIFEST_DIR"),
-        "/../../target/bin/list"
+        "/../../crates/list/out/list"
     ))
 }
