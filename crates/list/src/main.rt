@@ -6,7 +6,7 @@ ghost use Rattle.std.specs.Prelude.{◌≤◌, length, IfOk};
 
 use std::env::{Env, FillError};
 use std::fs::File;
-use std::io::{self, ErrorKind, Read};
+use std::io::{self, Cursor, ErrorKind, Read, Write};
 
 // The longest path that the system opens, in bytes.
 const PATH_MAX: usize = 4096;
@@ -48,13 +48,18 @@ fn read(rt: &HostRuntime, image: &mut [u8]) -> io::Result<usize>
     }
 }
 
-// What failed, in the system's words, without the system's number of it.
+// What failed, in the system's words, without the number that the system gives it.
 fn tell(rt: &HostRuntime, error: io::Error) -> io::Result<()> {
-    let words = format!(in rt.alloc(); "{error}")?;
-    match words.as_str().split_once(" (os error ") {
-        Some((words, _)) => eprintln!(rt; "list: {words}"),
-        None => eprintln!(rt; "list: {words}"),
-    }
+    let mut line = Cursor::new([0u8; 256]);
+    write!(line, "{error}")?;
+    let n = (line.position() as usize).min(256);
+    let line = line.into_inner();
+    let text = std::str::from_utf8(&line[..n]).unwrap_or("not readable");
+    let words = match text.split_once(" (os error ") {
+        Some((words, _)) => words,
+        None => text,
+    };
+    eprintln!(rt; "list: {words}")
 }
 
 // A byte more than the longest image that is listed is enough to know that one is too long.
