@@ -11,6 +11,9 @@ use std::io::{self, Cursor, ErrorKind, Read, Write};
 // The longest path that the system opens, in bytes.
 const PATH_MAX: usize = 4096;
 
+// The system's number for a path that is longer.
+const ENAMETOOLONG: i32 = 36;
+
 // The listing of an image. None is longer than this array.
 fn show(rt: &HostRuntime, image: &[u8]) -> io::Result<()> {
     let mut out = [0u8; 458771];
@@ -40,7 +43,7 @@ fn read(rt: &HostRuntime, image: &mut [u8]) -> io::Result<usize>
     let mut path = [0u8; PATH_MAX];
     match rt.arg(1, &mut path) {
         Err(FillError::NotPresent) => fill(&mut rt.stdin(), image),
-        Err(FillError::TooLong) => Err(io::Error::from(ErrorKind::InvalidInput)),
+        Err(FillError::TooLong) => Err(io::Error::from_raw_os_error(ENAMETOOLONG)),
         Ok(n) => match std::str::from_utf8(&path[..n]) {
             Err(_) => Err(io::Error::from(ErrorKind::InvalidInput)),
             Ok(path) => fill(&mut File::open(rt, path)?, image),
