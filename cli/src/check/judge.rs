@@ -27,7 +27,7 @@ pub enum Scope {
 /// The selectors and answers are zeros. Which refusal a segment gets, and at
 /// which record, how many sites it has and what is marked depend on the lists'
 /// lengths only, and not on what is in them: that is the theorem
-/// `same-but-bytes` in `crates/prepare/proofs/AnyLists.antt`.
+/// `same_but_bytes` in `crates/prepare/proofs/AnyLists.antt`.
 pub struct Judge {
     scope: Scope,
     work: Work,

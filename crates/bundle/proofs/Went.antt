@@ -1,8 +1,8 @@
 -- The laws of one step of the walk.
---     step_past, step_end, step-bundle   what stands at a place, from what its bytes are
+--     step_past, step_end, step_bundle   what stands at a place, from what its bytes are
 --     went                               what a step that goes on says about its bundle
 --     entries_sound                      no entry of that bundle is unsound
---     head-next, head-end                the head of that bundle, and where the table ends
+--     head_next, head_end                the head of that bundle, and where the table ends
 --     head_inside                        a head with a count lies inside the table
 -- Assumes nothing.
 use mathlib.Core.Path.{◌≡◌, refl, ap}

@@ -1,7 +1,7 @@
 -- The laws of a record's target.
 --     told           a target resolves in one of the five ways, or there is a reason why not
 --     resolves       so it resolves where the definition by cases gives no reason
---     resolved_is    to what that definition says, and resolves-not: then there is no reason
+--     resolved_is    to what that definition says, and resolves_not: then there is no reason
 --     target_cases   what holds of every kind of target holds of a record's; a segment is one that the module has
 -- Assumes nothing.
 use mathlib.Core.Path.{◌≡◌, refl, sym, ◌∙◌}

@@ -1,6 +1,6 @@
 -- A span has a marked byte exactly if it meets an earlier one, where the bytes of the earlier ones are marked.
 -- Assumes nothing.
-use mathlib.Core.Path.{◌≡◌, refl, sym, ◌∙◌}
+use mathlib.Core.Path.{◌≡◌, refl, sym}
 use mathlib.Core.Bool.{Bool, true, false, not, ◌||◌}
 use mathlib.Core.List.{List}
 use Prim.Native.Nat.{ℕ, zero, suc, ◌+◌, ◌-◌, ◌<◌}
@@ -10,9 +10,8 @@ use lib.Dec.{eqb}
 use lib.ListN.{length}
 use Rattle.le.specs.Number.{byte_at}
 use Rattle.checks.proofs.Impossible.{never}
-use Rattle.lists.specs.Lists.{All}
 use Rattle.lists.proofs.All.{all_map}
-use Rattle.site.specs.Site.{Site, width_of, end_of, InSpan, Inside, Apart}
+use Rattle.site.specs.Site.{Site, width_of, InSpan, Apart}
 use Rattle.site.specs.Prepared.{marked}
 use Rattle.site.specs.Exact.{Marked}
 use Rattle.site.specs.Walk.{meets_one}

@@ -53,9 +53,9 @@ fn read(rt: &HostRuntime, image: &mut [u8]) -> io::Result<usize>
 
 // What failed, in the system's words, without the number that the system gives it.
 fn tell(rt: &HostRuntime, error: io::Error) -> io::Result<()> {
-    let mut line = Cursor::new([0u8; 256]);
+    let mut line = Cursor::new([0u8; 512]);
     write!(line, "{error}")?;
-    let n = (line.position() as usize).min(256);
+    let n = (line.position() as usize).min(512);
     let line = line.into_inner();
     let text = std::str::from_utf8(&line[..n]).unwrap_or("not readable");
     let words = match text.split_once(" (os error ") {

@@ -2,13 +2,13 @@
 --     all_of         what holds of everything
 --     all_map        what follows from what holds of each
 --     all_both       two things together
---     all_append     of two lists together, and all-front and all_back the other way
+--     all_append     of two lists together, and all_front and all_back the other way
 --     all_mapped     of the images of the elements
 --     all_gathered   of the lists of all elements
 --     all_swap       of all of one list, for each of another
 --     pairs_map      of each two, what follows from what holds of them
---     pairs-gathered of the lists of each two elements
---     pairs_append   of each two of two lists together, and pairs-front, pairs-back and pairs-across the other way
+--     pairs_gathered of the lists of each two elements
+--     pairs_append   of each two of two lists together, and pairs_front, pairs_back and pairs_across the other way
 -- Assumes nothing.
 use mathlib.Core.List.{List, [], ◌∷◌, ◌++◌, map}
 use Rattle.lists.specs.Lists.{All, Pairs, gathered}

@@ -2,7 +2,7 @@
 --     each_same    two that have the same at each index are equal
 --     each_mapped  what becomes of each element is what becomes of each index
 --     all_each     what holds at each index holds of all, and each_all the other way
---     each_from    from an index on, it has what the index has and then what follows; each-end: behind the last, nothing
+--     each_from    from an index on, it has what the index has and then what follows; each_end: behind the last, nothing
 -- Assumes nothing.
 use mathlib.Core.Path.{◌≡◌, refl, ap, ap₂}
 use mathlib.Core.List.{List, [], ◌∷◌, map}

@@ -2,10 +2,10 @@
 --     copied_front   a copy of fewer bytes leaves what is behind them
 --     copied_whole   a copy of as many bytes leaves these
 --     filled         the bytes copied, then zeros up to the allocation
---     zeros-front, zeros-behind, part-size   the parts of a list of zeros
+--     zeros_front, zeros_behind, part_size   the parts of a list of zeros
 -- Assumes nothing.
 use mathlib.Core.Path.{◌≡◌, refl, ap, ◌∙◌}
-use mathlib.Core.List.{List, [], ◌∷◌, ◌++◌, append-nil, append_assoc}
+use mathlib.Core.List.{List, ◌∷◌, ◌++◌, append-nil, append_assoc}
 use Prim.Native.Nat.{ℕ, zero, suc, ◌+◌, ◌-◌, ◌≤◌, min}
 use native.Mathlib.Omega.{arith}
 use lib.ListN.{length, take, drop, drop_of_length-le, length-replicate}

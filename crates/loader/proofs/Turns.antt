@@ -2,8 +2,8 @@
 --     run_on    from an index on: the sites of its record, then the rest
 --     run_end   behind the last record
 -- Assumes nothing.
-use mathlib.Core.Path.{◌≡◌, refl}
-use mathlib.Core.List.{List, ◌∷◌}
+use mathlib.Core.Path.{◌≡◌}
+use mathlib.Core.List.{List}
 use Prim.Native.Nat.{ℕ, suc, ◌<◌}
 use lib.ListN.{drop}
 use Rattle.lists.specs.Lists.{each}

@@ -1,5 +1,5 @@
 -- The answers by the walks are those of the queries.
---     sound-list, unsound-list   what a walk that was done says
+--     sound_list, unsound_list   what a walk that was done says
 --     next_few                   the number behind a list
 --     by_number, by_bytes        the two queries
 -- Assumes nothing.

@@ -5,7 +5,7 @@
 -- Assumes nothing.
 use mathlib.Core.Path.{◌≡◌, refl}
 use mathlib.Core.Bool.{Bool, true, false}
-use mathlib.Core.List.{List, [], ◌∷◌}
+use mathlib.Core.List.{[], ◌∷◌}
 use Prim.Native.Nat.{ℕ, ◌-◌}
 use Rattle.checks.specs.Checks.{◌⇒◌, decide}
 use Rattle.checks.proofs.Impossible.{never}
@@ -15,7 +15,6 @@ use Rattle.header.specs.Header.{header_of, lacks}
 use Rattle.header.specs.declared.Header.{Header}
 use Rattle.header.specs.declared.Answer.TheVariants as headers
 use Rattle.segment.specs.Segment.{record_of, on_segment}
-use Rattle.segment.specs.declared.Segment.{Segment}
 use Rattle.segment.specs.declared.Answer as segment
 use Rattle.segment.specs.declared.Answer.TheVariants as segments
 use Rattle.tables.specs.Table.{on_table, Sound, Unsound}

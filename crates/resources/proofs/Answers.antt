@@ -1,7 +1,7 @@
 -- The answers by the walk are those of the queries.
---     table_none, table-past, table-shift, table-blocks   what the table is
---     sound-answer, unsound-answer                        what a walk that was done says
---     by_number, by-words                                 the two queries
+--     table_none, table_past, table_shift, table_blocks   what the table is
+--     sound_answer, unsound_answer                        what a walk that was done says
+--     by_number, by_words                                 the two queries
 -- Assumes nothing.
 use mathlib.Core.Path.{◌≡◌, ◌∙◌, refl}
 use mathlib.Core.Bool.{Bool, true, false, cond}

@@ -1,7 +1,7 @@
 -- The laws of a block's resources.
---     number-before, number_behind   a number that isn't the block's finds nothing
+--     number_before, number_behind   a number that isn't the block's finds nothing
 --     number_here                    one that is finds the resource of its index
---     kind-other, words-low          other words, or words without the high bit, find nothing
+--     kind_other, words_low          other words, or words without the high bit, find nothing
 --     words_id                       in a block of the right type the id decides
 --     one_more                       the first of the resources that are left, and the rest
 -- Assumes nothing.

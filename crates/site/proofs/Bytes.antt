@@ -1,6 +1,6 @@
 -- Demand 2: the bytes of a segment whose sites are sound, and the marks.
---     exactly, marked-exactly          what they are
---     prepared-front, marked-front     they can be made in as many bytes as are stored
+--     exactly, marked_exactly          what they are
+--     prepared_front, marked_front     they can be made in as many bytes as are stored
 -- Assumes nothing.
 use mathlib.Core.Path.{◌≡◌, sym, ◌∙◌}
 use mathlib.Core.List.{List, ◌++◌}

@@ -1,5 +1,5 @@
 -- The checks of a site, and what they say: its span lies in the stored bytes and shares no byte with an earlier one.
---     one_apart     a span that meets no earlier one is apart from all, and apart-one the other way
+--     one_apart     a span that meets no earlier one is apart from all, and apart_one the other way
 --     good_more     a site that passes its checks is good behind the earlier ones
 --     site_cases    what the checks decide, by cases
 --     checks_pass   a good site passes its checks

@@ -1,6 +1,5 @@
 -- `header::leaves` meets its contract: at each return the test that led there says which case of the definition holds.
 -- Assumes nothing.
-use borrow.Author.Rules.{rules}
 use borrow.Author.Tests.{eq-eqb, ne_eqb}
 use Rattle.header.specs.Header.{leaves}
 use Rattle.header.proofs.leaves.Goals as goal

@@ -1,7 +1,6 @@
 -- `header::tables` meets its contract: each field is what its call promises.
 -- Assumes nothing.
 use Rattle.header.specs.Header.{tables_of}
-use borrow.Author.Rules.{rules}
 use Rattle.header.proofs.tables.Goals as goal
 
 pub returns : goal.returns

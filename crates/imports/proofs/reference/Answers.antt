@@ -1,14 +1,8 @@
 -- `imports::reference` meets its contract: the check of the number, then the string's answer.
 -- Assumes nothing.
-use mathlib.Core.Path.{◌≡◌, ◌∙◌, sym}
-use mathlib.Core.Bool.{true, false}
+use mathlib.Core.Path.{◌∙◌, sym}
 use native.Mathlib.Omega.{arith}
-use Prim.Native.Nat.{◌+◌, ◌*◌, ◌-◌}
-use Rattle.le.specs.Number.{word_at}
-use Rattle.header.specs.Header.{lacks}
 use Rattle.header.proofs.Numbered.{has}
-use Rattle.imports.specs.Module.{string_at, named, reference_of}
-use borrow.Author.Rules.{rules}
 use Rattle.imports.proofs.reference.Goals as goal
 
 pub overflow_sub-index : goal.overflow_sub-index

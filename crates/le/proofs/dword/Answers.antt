@@ -1,7 +1,6 @@
 -- `le::dword` meets its contract: the law of a number's parts at one word and one word.
 -- Assumes nothing.
 use mathlib.Core.Path.{sym}
-use borrow.Author.Rules.{rules}
 use Rattle.le.proofs.Number.{joined, number_past}
 use Rattle.le.proofs.dword.Goals as goal
 

@@ -1,7 +1,6 @@
 -- `le::word` meets its contract: the law of a number's parts at one byte and one byte.
 -- Assumes nothing.
 use mathlib.Core.Path.{sym, ◌∙◌}
-use borrow.Author.Rules.{rules}
 use Rattle.le.proofs.Number.{joined, number_one, number_past}
 use Rattle.le.proofs.word.Goals as goal
 

@@ -4,7 +4,6 @@ use mathlib.Core.Path.{◌≡◌, ◌∙◌, sym}
 use Rattle.refusal.specs.Number.{number_of}
 use Rattle.listing.specs.Listing.{lines_of}
 use Rattle.listing.proofs.Writing.{from_front}
-use borrow.Author.Rules.{rules}
 use Rattle.listing.proofs.of_any_size.Goals as goal
 
 pub returns-in-Refused : goal.returns-in-Refused

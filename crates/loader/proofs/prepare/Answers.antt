@@ -1,8 +1,6 @@
 -- `loader::prepare` meets its contract: the marks are cleared, then the checks refuse or the records decide.
 -- Assumes nothing.
-use mathlib.Core.Path.{◌≡◌, ◌∙◌, sym}
 use Rattle.loader.proofs.Passed.{has_room, refused_kept, passed_kept}
-use borrow.Author.Rules.{rules}
 use Rattle.loader.proofs.prepare.Goals as goal
 
 pub segment-requires : goal.segment-requires

@@ -5,7 +5,6 @@ use Rattle.names.specs.declared.Request.TheVariants.{Bytes}
 use Rattle.names.specs.Internal.{answer_of}
 use mathlib.Core.Path.{◌≡◌, ◌∙◌}
 use Rattle.names.proofs.Answers.{by_bytes}
-use borrow.Author.Rules.{rules}
 use Rattle.names.proofs.by_bytes.Goals as goal
 
 pub returns : goal.returns

@@ -5,7 +5,6 @@ use Rattle.names.specs.declared.Request.TheVariants.{Number}
 use Rattle.names.specs.Internal.{answer_of}
 use mathlib.Core.Path.{◌≡◌, ◌∙◌}
 use Rattle.names.proofs.Answers.{by_number}
-use borrow.Author.Rules.{rules}
 use Rattle.names.proofs.by_number.Goals as goal
 
 pub returns : goal.returns

@@ -10,12 +10,9 @@ use Rattle.tables.specs.Table.{Sound}
 use Rattle.names.specs.declared.Name.{Name}
 use Rattle.names.specs.declared.Progress.{Progress}
 use Rattle.names.specs.declared.Match.TheVariants.{Nothing}
-use Rattle.names.specs.declared.Answer.TheVariants.{Refused}
 use Rattle.names.specs.Names.{resident_of}
-use Rattle.names.specs.Internal.{answer_behind, answer_in}
 use Rattle.names.proofs.Numbers.{few}
-use Rattle.names.proofs.Answers.{sound_list, unsound_list, next_few}
-use borrow.Author.Rules.{rules}
+use Rattle.names.proofs.Answers.{next_few}
 use Rattle.names.proofs.in_lists.Goals as goal
 
 -- Where a search starts.

@@ -4,7 +4,6 @@
 use mathlib.Core.Path.{sym, ◌∙◌}
 use native.Mathlib.Omega.{arith}
 use Rattle.imports.proofs.Bounds.{module_accepted}
-use borrow.Author.Rules.{rules}
 use Rattle.ne.proofs.ne_module.Goals as goal
 
 pub overflow_cast-text_at : goal.overflow_cast-text_at

@@ -1,8 +1,7 @@
 -- `ne::ne_name_by_number` meets its contract: the numbers of the answer fit, and they are handed over.
 -- Assumes nothing.
-use mathlib.Core.Path.{sym, ◌∙◌}
+use mathlib.Core.Path.{sym}
 use Rattle.ne.proofs.Fits.{number_fits}
-use borrow.Author.Rules.{rules}
 use Rattle.ne.proofs.ne_name_by_number.Goals as goal
 
 pub name-requires : goal.name-requires

@@ -4,7 +4,6 @@
 use mathlib.Core.Path.{sym, ◌∙◌}
 use native.Mathlib.Omega.{arith}
 use Rattle.segment.proofs.Bounds.{accepted}
-use borrow.Author.Rules.{rules}
 use Rattle.ne.proofs.ne_segment.Goals as goal
 
 pub overflow_cast-start : goal.overflow_cast-start

@@ -1,9 +1,8 @@
 -- `ready::check` meets its contract: the header's answer, the segment's, then the sizes.
 -- Assumes nothing.
-use mathlib.Core.Path.{◌≡◌, ◌∙◌, sym}
-use Rattle.prepare.specs.Prepare.{Request, request_of}
+use mathlib.Core.Path.{◌∙◌, sym}
+use Rattle.prepare.specs.Prepare.{request_of}
 use Rattle.ready.proofs.Parts.{by_header, by_parts}
-use borrow.Author.Rules.{rules}
 use Rattle.ready.proofs.check.Goals as goal
 
 pub returns-in-Refused : goal.returns-in-Refused

@@ -5,7 +5,6 @@ use Rattle.resources.specs.declared.Request.TheVariants.{Number}
 use Rattle.resources.specs.Internal.{answer_of}
 use mathlib.Core.Path.{◌≡◌, ◌∙◌}
 use Rattle.resources.proofs.Answers.{by_number}
-use borrow.Author.Rules.{rules}
 use Rattle.resources.proofs.by_number.Goals as goal
 
 pub returns : goal.returns

@@ -5,7 +5,6 @@ use Rattle.resources.specs.declared.Request.TheVariants.{Words}
 use Rattle.resources.specs.Internal.{answer_of}
 use mathlib.Core.Path.{◌≡◌, ◌∙◌}
 use Rattle.resources.proofs.Answers.{by_words}
-use borrow.Author.Rules.{rules}
 use Rattle.resources.proofs.by_words.Goals as goal
 
 pub returns : goal.returns

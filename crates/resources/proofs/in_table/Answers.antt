@@ -9,7 +9,6 @@ use Rattle.tables.specs.Query.{first_of}
 use Rattle.resources.specs.Resource.{blocks_from}
 use Rattle.resources.specs.Internal.{answer_in}
 use Rattle.resources.proofs.Answers.{answer_from, table_none, table_past, table_shift, table_blocks, sound_answer, unsound_answer}
-use borrow.Author.Rules.{rules}
 use Rattle.resources.proofs.in_table.Goals as goal
 
 pub returns-then-h : goal.returns-then-h
@@ -36,12 +35,12 @@ pub returns-in-Unsound : goal.returns-in-Unsound
 unfolding answer_in
 returns-in-Unsound c =
     let walked : (answer_in c.args.image.now c.args.h c.args.request c.args.none ≡ answer_from (length c.args.image.now) (blocks_from c.args.image.now c.word-shift.result (c.args.h.resources + 2)) c.args.request c.args.none) =
-        let a = c.args in
-        let inside : a.h.resources + 2 ≤ length a.image.now = omega arith in
-        let small : c.word-shift.result ≤ 15 = omega arith in
-        let shift = c.word-shift.ensures in
-        let is = table_blocks a.image.now a.h c.if-h.false inside (rw shift at small) in
-        rw shift (ap (λ t. answer_from (length a.image.now) t a.request a.none) is) in
+    let a = c.args in
+    let inside : a.h.resources + 2 ≤ length a.image.now = omega arith in
+    let small : c.word-shift.result ≤ 15 = omega arith in
+    let shift = c.word-shift.ensures in
+    let is = table_blocks a.image.now a.h c.if-h.false inside (rw shift at small) in
+    rw shift (ap (λ t. answer_from (length a.image.now) t a.request a.none) is) in
     let a = c.args in
     let t = blocks_from a.image.now c.word-shift.result (a.h.resources + 2) in
     sym (walked ∙ unsound_answer (length a.image.now) t a.request a.none c.in-Unsound.why (sym c.walk-walked.ensures ∙ c.in-Unsound.is))
@@ -50,12 +49,12 @@ pub returns-in-Sound : goal.returns-in-Sound
 unfolding answer_in
 returns-in-Sound c =
     let walked : (answer_in c.args.image.now c.args.h c.args.request c.args.none ≡ answer_from (length c.args.image.now) (blocks_from c.args.image.now c.word-shift.result (c.args.h.resources + 2)) c.args.request c.args.none) =
-        let a = c.args in
-        let inside : a.h.resources + 2 ≤ length a.image.now = omega arith in
-        let small : c.word-shift.result ≤ 15 = omega arith in
-        let shift = c.word-shift.ensures in
-        let is = table_blocks a.image.now a.h c.if-h.false inside (rw shift at small) in
-        rw shift (ap (λ t. answer_from (length a.image.now) t a.request a.none) is) in
+    let a = c.args in
+    let inside : a.h.resources + 2 ≤ length a.image.now = omega arith in
+    let small : c.word-shift.result ≤ 15 = omega arith in
+    let shift = c.word-shift.ensures in
+    let is = table_blocks a.image.now a.h c.if-h.false inside (rw shift at small) in
+    rw shift (ap (λ t. answer_from (length a.image.now) t a.request a.none) is) in
     let a = c.args in
     let t = blocks_from a.image.now c.word-shift.result (a.h.resources + 2) in
     c.conclude.ensures ∙ sym (walked ∙ sound_answer (length a.image.now) t a.request a.none c.in-Sound.found (sym c.walk-walked.ensures ∙ c.in-Sound.is))

@@ -2,7 +2,6 @@
 -- Assumes nothing.
 use mathlib.Core.Path.{◌≡◌, sym, ◌∙◌}
 use mathlib.Core.Bool.{true}
-use borrow.Author.Rules.{rules}
 use Rattle.target.specs.Internal.{by_ordinal}
 use Rattle.target.proofs.Entries.{by_entry, counted}
 use Rattle.target.proofs.alone.Goals as goal

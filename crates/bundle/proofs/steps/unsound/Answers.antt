@@ -1,16 +1,15 @@
 -- `bundle::steps::unsound` meets its contract. The loop's invariant: the entries that are left decide what all of them do.
 -- Assumes nothing.
-use mathlib.Core.Path.{◌≡◌, ◌∙◌, refl, sym}
+use mathlib.Core.Path.{◌≡◌, ◌∙◌, sym}
 use mathlib.Core.Bool.{true, false, ◌||◌}
 use mathlib.Core.List.{List}
-use Prim.Native.Nat.{ℕ, zero, suc, ◌+◌, ◌*◌, ◌-◌, ◌^◌, ◌≤◌, ◌<◌}
+use Prim.Native.Nat.{ℕ, zero, suc, ◌+◌, ◌*◌, ◌-◌, ◌≤◌, ◌<◌}
 use native.Mathlib.Omega.{arith}
 use lib.ListN.{length, drop}
 use Rattle.bundle.specs.Bundle.{width_of, entry_unsound, unsound_from}
 use Rattle.bundle.specs.declared.Kind.{Kind}
 use Rattle.bundle.proofs.Widths.{one_width}
 use native.Mathlib.Nat.{not-suc-le-zero}
-use borrow.Author.Rules.{rules}
 use Rattle.bundle.proofs.steps.unsound.Goals as goal
 
 -- The first of the entries that are left, and the rest.

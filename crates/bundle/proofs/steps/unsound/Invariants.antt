@@ -1,16 +1,9 @@
 -- `bundle::steps::unsound` meets its contract. The loop's invariant: the entries that are left decide what all of them do.
 -- Assumes nothing.
-use mathlib.Core.Path.{◌≡◌, ◌∙◌, refl, sym}
-use mathlib.Core.Bool.{true, false, ◌||◌}
-use mathlib.Core.List.{List}
-use Prim.Native.Nat.{ℕ, zero, suc, ◌+◌, ◌*◌, ◌-◌, ◌^◌, ◌≤◌, ◌<◌}
-use native.Mathlib.Omega.{arith}
-use lib.ListN.{length, drop}
-use Rattle.bundle.specs.Bundle.{width_of, entry_unsound, unsound_from}
-use Rattle.bundle.specs.declared.Kind.{Kind}
-use Rattle.bundle.proofs.Widths.{one_width}
-use native.Mathlib.Nat.{not-suc-le-zero}
-use borrow.Author.Rules.{rules}
+use mathlib.Core.Path.{◌≡◌}
+use Prim.Native.Nat.{◌+◌, ◌*◌, ◌≤◌}
+use lib.ListN.{length}
+use Rattle.bundle.specs.Bundle.{width_of, unsound_from}
 use Rattle.bundle.proofs.steps.unsound.Given as goal
 
 abbrev pub invariant-loop-left : goal.invariant-loop-left

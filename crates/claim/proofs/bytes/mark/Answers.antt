@@ -1,13 +1,9 @@
 -- `claim::bytes::mark` meets its contract. The loop's invariant: what is left to be marked gives the whole.
 -- Assumes nothing.
-use mathlib.Core.Path.{◌≡◌, ◌∙◌, refl, sym}
-use Prim.Native.Nat.{◌+◌, ◌-◌, ◌≤◌}
+use mathlib.Core.Path.{◌∙◌, sym}
 use native.Mathlib.Omega.{arith}
-use lib.ListN.{length, length-set}
-use Rattle.claim.specs.Internal.{claimed}
+use lib.ListN.{length-set}
 use Rattle.claim.proofs.Spans.{claimed_on}
-use Rattle.claim.proofs.bytes.mark.Reads as reads
-use Rattle.claim.proofs.bytes.mark.Lts as lts
 use Rattle.claim.proofs.bytes.mark.Goals as goal
 
 pub loop-at-preserved : goal.loop-at-preserved

@@ -1,14 +1,8 @@
 -- `claim::bytes::taken` meets its contract. The loop's invariant: what is left decides.
 -- Assumes nothing.
-use mathlib.Core.Path.{◌≡◌, ◌∙◌, refl, sym}
-use mathlib.Core.Bool.{false}
-use Prim.Native.Nat.{suc, ◌+◌, ◌-◌, ◌≤◌, ◌<◌}
-use native.Mathlib.Numerals.{add-one}
-use native.Mathlib.Omega.{arith}
-use borrow.Author.Tests.{eq-eqb, ne_eqb}
-use lib.ListN.{length, get_or}
+use mathlib.Core.Path.{◌≡◌}
+use Prim.Native.Nat.{◌-◌, ◌≤◌}
 use Rattle.claim.specs.Internal.{taken}
-use Rattle.claim.proofs.Spans.{taken_on}
 use Rattle.claim.proofs.bytes.taken.Given as goal
 
 abbrev pub invariant-loop-at : goal.invariant-loop-at

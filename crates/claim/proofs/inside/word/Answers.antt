@@ -2,12 +2,10 @@
 -- Assumes nothing.
 use mathlib.Core.Path.{◌≡◌, refl}
 use mathlib.Core.Bool.{true, false}
-use Prim.Native.Nat.{ℕ, suc, ◌+◌}
+use Prim.Native.Nat.{suc, ◌+◌}
 use native.Mathlib.Omega.{arith}
-use lib.ListN.{length-set}
 use Rattle.claim.specs.Internal.{taken}
 use Rattle.claim.proofs.Spans.{met, unmet}
-use borrow.Author.Rules.{rules}
 use Rattle.claim.proofs.inside.word.Goals as goal
 
 pub returns-then-word-ne0 : goal.returns-then-word-ne0

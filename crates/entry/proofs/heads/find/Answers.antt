@@ -4,13 +4,11 @@
 use mathlib.Core.Path.{◌≡◌, ◌∙◌}
 use Prim.Native.Nat.{◌+◌, ◌*◌, ◌-◌, ◌/◌, ◌%◌, ◌^◌, ◌≤◌, ◌<◌}
 use native.Mathlib.Omega.{arith}
-use borrow.Author.Rules.{rules}
 use lib.ListN.{length, get_or, drop}
 use Rattle.bundle.specs.Bundle.{kind_of, width_of, entry_of}
 use Rattle.bundle.proofs.Went.{head_inside}
 use Rattle.entry.proofs.Covers.{offset_below}
 use Rattle.entry.proofs.Marks.{none_is_0, mark_ends, mark_covers, mark_goes_on}
-use Rattle.entry.proofs.Indexed.{Marked}
 use Rattle.entry.proofs.heads.find.Goals as goal
 
 pub returns-then-number-eq0 : goal.returns-then-number-eq0
@@ -21,10 +19,10 @@ returns-then-number-eq0 c =
 pub loop-head-init : goal.loop-head-init
 loop-head-init c =
     let passed_low : c.nearest-place.result % 65536 ≤ c.args.number - 1 =
-        let a = c.args in
-        let low = c.requires.low ((a.number - 1) / 4) in
-        let is : c.nearest-place.result ≡ get_or a.index.now ((a.number - 1) / 4) 0 = c.nearest-place.ensures in
-        rw is (omega (arith, low)) in
+    let a = c.args in
+    let low = c.requires.low ((a.number - 1) / 4) in
+    let is : c.nearest-place.result ≡ get_or a.index.now ((a.number - 1) / 4) 0 = c.nearest-place.ensures in
+    rw is (omega (arith, low)) in
     let a = c.args in
     let place = c.nearest-place.result in
     let low = passed_low in
@@ -40,15 +38,15 @@ returns-then-count-eq0 c =
 pub overflow_add-first : goal.overflow_add-first
 overflow_add-first c =
     let inside : c.loop-head.at < length c.args.table.now =
-        let table = c.args.table.now in
-        head_inside table c.loop-head.at (λ none. c.if-count-eq0.false (rw c.head_at-head.ensures none)) in
+    let table = c.args.table.now in
+    head_inside table c.loop-head.at (λ none. c.if-count-eq0.false (rw c.head_at-head.ensures none)) in
     let i = inside in omega arith
 
 pub overflow_add-place : goal.overflow_add-place
 overflow_add-place c =
     let inside : c.loop-head.at < length c.args.table.now =
-        let table = c.args.table.now in
-        head_inside table c.loop-head.at (λ none. c.if-count-eq0.false (rw c.head_at-head.ensures none)) in
+    let table = c.args.table.now in
+    head_inside table c.loop-head.at (λ none. c.if-count-eq0.false (rw c.head_at-head.ensures none)) in
     let place_below : c.width.result * c.loop-head.left < 2 ^ 35 = offset_below c.width.result c.loop-head.left c.width.ensures.1 (omega arith) in
     let below = place_below in
     let i = inside in
@@ -68,8 +66,8 @@ returns-then-left-count c =
 pub overflow_add-at : goal.overflow_add-at
 overflow_add-at c =
     let inside : c.loop-head.at < length c.args.table.now =
-        let table = c.args.table.now in
-        head_inside table c.loop-head.at (λ none. c.if-count-eq0.false (rw c.head_at-head.ensures none)) in
+    let table = c.args.table.now in
+    head_inside table c.loop-head.at (λ none. c.if-count-eq0.false (rw c.head_at-head.ensures none)) in
     let below = c.size_of.ensures.1 in
     let i = inside in
     omega arith
@@ -77,8 +75,8 @@ overflow_add-at c =
 pub loop-head-smaller : goal.loop-head-smaller
 loop-head-smaller c =
     let inside : c.loop-head.at < length c.args.table.now =
-        let table = c.args.table.now in
-        head_inside table c.loop-head.at (λ none. c.if-count-eq0.false (rw c.head_at-head.ensures none)) in
+    let table = c.args.table.now in
+    head_inside table c.loop-head.at (λ none. c.if-count-eq0.false (rw c.head_at-head.ensures none)) in
     let i = inside in omega arith
 
 pub loop-head-preserved : goal.loop-head-preserved

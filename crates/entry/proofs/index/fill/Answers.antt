@@ -1,13 +1,9 @@
 -- `entry::index::fill` meets its contract. The loop's invariant: the index is one, and the walk stands at a place of the table.
 -- Assumes nothing.
 use mathlib.Core.Path.{◌≡◌, ◌∙◌, refl}
-use Prim.Native.Nat.{◌-◌, ◌≤◌}
 use native.Mathlib.Omega.{arith}
-use borrow.Author.Rules.{rules}
-use lib.ListN.{length}
-use Rattle.entry.specs.Internal.{Indexes}
 use Rattle.entry.proofs.Marks.{mark_goes_on}
-use Rattle.entry.proofs.Indexed.{Marked, start_marked, put_indexes}
+use Rattle.entry.proofs.Indexed.{start_marked, put_indexes}
 use Rattle.entry.proofs.index.fill.Goals as goal
 
 pub loop-at-init : goal.loop-at-init

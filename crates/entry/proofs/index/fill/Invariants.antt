@@ -1,13 +1,10 @@
 -- `entry::index::fill` meets its contract. The loop's invariant: the index is one, and the walk stands at a place of the table.
 -- Assumes nothing.
-use mathlib.Core.Path.{◌≡◌, ◌∙◌, refl}
+use mathlib.Core.Path.{◌≡◌}
 use Prim.Native.Nat.{◌-◌, ◌≤◌}
-use native.Mathlib.Omega.{arith}
-use borrow.Author.Rules.{rules}
 use lib.ListN.{length}
 use Rattle.entry.specs.Internal.{Indexes}
-use Rattle.entry.proofs.Marks.{mark_goes_on}
-use Rattle.entry.proofs.Indexed.{Marked, start_marked, put_indexes}
+use Rattle.entry.proofs.Indexed.{Marked}
 use Rattle.entry.proofs.index.fill.Given as goal
 
 abbrev pub invariant-loop-at : goal.invariant-loop-at

@@ -1,12 +1,9 @@
 -- `entry::index::put` meets its contract. The loop's invariant: each element is as it was or has the place.
 -- Assumes nothing.
-use mathlib.Core.Path.{◌≡◌, refl}
-use mathlib.Core.Logic.{inl}
+use mathlib.Core.Path.{◌≡◌}
 use Prim.Native.Nat.{ℕ, ◌-◌, ◌≤◌}
-use native.Mathlib.Omega.{arith}
-use borrow.Author.Rules.{rules}
-use lib.ListN.{length, length-set}
-use Rattle.entry.proofs.Indexed.{Put, put_on}
+use lib.ListN.{length}
+use Rattle.entry.proofs.Indexed.{Put}
 use Rattle.entry.proofs.index.put.Given as goal
 
 abbrev pub invariant-loop-element : goal.invariant-loop-element

@@ -4,13 +4,10 @@
 use mathlib.Core.Path.{◌≡◌, ◌∙◌, refl, ap, sym}
 use mathlib.Core.Bool.{cond}
 use mathlib.Core.List.{List, [], ◌∷◌}
-use Prim.Native.Nat.{ℕ, ◌+◌, ◌-◌, ◌^◌, ◌<◌}
+use Prim.Native.Nat.{ℕ, ◌+◌, ◌^◌, ◌<◌}
 use native.Mathlib.Omega.{arith}
-use borrow.Author.Rules.{rules}
-use lib.ListN.{length}
 use Rattle.bundle.specs.declared.Bundle.{Bundle}
 use Rattle.entry.specs.declared.Slot.{Slot}
-use Rattle.entry.specs.declared.Walked.{Walked}
 use Rattle.entry.specs.declared.Walked.TheVariants as walked
 use Rattle.tables.specs.Table.{Sound, Unsound, after}
 use Rattle.entry.specs.Table.{EntryTable, table_at, table_of, ordinals_in, covers, slot_of, no_slot}
@@ -61,18 +58,18 @@ returns-in-End c =
 pub choose-slot-requires : goal.choose-slot-requires
 choose-slot-requires c =
     let next_is : Went c.args.table.now c.loop-why.at c.loop-why.used c.in-Next.b =
-        let l = c.loop-why in
-        let a = c.args in
-        went a.table.now a.segments l.at l.used c.in-Next.b (sym c.next-step.ensures ∙ c.in-Next.is) in
+    let l = c.loop-why in
+    let a = c.args in
+    went a.table.now a.segments l.at l.used c.in-Next.b (sym c.next-step.ensures ∙ c.in-Next.is) in
     let w = next_is in
     omega (arith, w.room, w.end)
 
 pub overflow_add-used : goal.overflow_add-used
 overflow_add-used c =
     let next_is : Went c.args.table.now c.loop-why.at c.loop-why.used c.in-Next.b =
-        let l = c.loop-why in
-        let a = c.args in
-        went a.table.now a.segments l.at l.used c.in-Next.b (sym c.next-step.ensures ∙ c.in-Next.is) in
+    let l = c.loop-why in
+    let a = c.args in
+    went a.table.now a.segments l.at l.used c.in-Next.b (sym c.next-step.ensures ∙ c.in-Next.is) in
     let w = next_is in
     let fits : c.in-Next.b.used + c.in-Next.b.count < 2 ^ 32 = omega (arith, w.few) in
     record { fits = fits }
@@ -80,17 +77,17 @@ overflow_add-used c =
 pub loop-why-smaller : goal.loop-why-smaller
 loop-why-smaller c =
     let next_is : Went c.args.table.now c.loop-why.at c.loop-why.used c.in-Next.b =
-        let l = c.loop-why in
-        let a = c.args in
-        went a.table.now a.segments l.at l.used c.in-Next.b (sym c.next-step.ensures ∙ c.in-Next.is) in
+    let l = c.loop-why in
+    let a = c.args in
+    went a.table.now a.segments l.at l.used c.in-Next.b (sym c.next-step.ensures ∙ c.in-Next.is) in
     let w = next_is in omega (arith, w.on, w.room, w.end)
 
 pub loop-why-preserved : goal.loop-why-preserved
 loop-why-preserved c =
     let next_is : Went c.args.table.now c.loop-why.at c.loop-why.used c.in-Next.b =
-        let l = c.loop-why in
-        let a = c.args in
-        went a.table.now a.segments l.at l.used c.in-Next.b (sym c.next-step.ensures ∙ c.in-Next.is) in
+    let l = c.loop-why in
+    let a = c.args in
+    went a.table.now a.segments l.at l.used c.in-Next.b (sym c.next-step.ensures ∙ c.in-Next.is) in
     let l = c.loop-why in
     let a = c.args in
     let b = c.in-Next.b in

@@ -1,23 +1,16 @@
 -- `entry::whole::walk` meets its contract. The loop's invariant: what was found so far and the table from here on give what
 -- the whole table gives.
 -- Assumes nothing.
-use mathlib.Core.Path.{◌≡◌, ◌∙◌, refl, ap, sym}
-use mathlib.Core.Bool.{cond}
-use mathlib.Core.List.{List, [], ◌∷◌}
-use Prim.Native.Nat.{ℕ, ◌+◌, ◌-◌, ◌^◌, ◌<◌}
-use native.Mathlib.Omega.{arith}
-use borrow.Author.Rules.{rules}
+use mathlib.Core.Path.{◌≡◌}
+use Prim.Native.Nat.{ℕ, ◌+◌, ◌-◌}
 use lib.ListN.{length}
-use Rattle.bundle.specs.declared.Bundle.{Bundle}
 use Rattle.entry.specs.declared.Slot.{Slot}
 use Rattle.entry.specs.declared.Walked.{Walked}
 use Rattle.entry.specs.declared.Walked.TheVariants as walked
-use Rattle.tables.specs.Table.{Sound, Unsound, after}
-use Rattle.entry.specs.Table.{EntryTable, table_at, table_of, ordinals_in, covers, slot_of, no_slot}
+use Rattle.tables.specs.Table.{Sound, Unsound}
+use Rattle.entry.specs.Table.{EntryTable, table_at, table_of, ordinals_in}
 use Rattle.entry.specs.Internal.{walk_of}
-use Rattle.bundle.proofs.Went.{Went, went}
-use Rattle.entry.proofs.Follow.{sound_follow, last_in, last_is_first}
-use Rattle.entry.proofs.Turns.{unrolled, whole}
+use Rattle.entry.proofs.Follow.{last_in}
 use Rattle.entry.proofs.whole.walk.Given as goal
 
 -- What is found in all, where `used` ordinals and the slot were found before the table `t`.

@@ -1,13 +1,8 @@
 -- `follow::sites::all` meets its contract. The loop's invariant: the pass from here on is the pass from the start on.
 -- Assumes nothing.
-use mathlib.Core.Path.{◌≡◌, ◌∙◌, refl, ap}
-use Prim.Native.Nat.{ℕ, ◌<◌}
-use native.Mathlib.Omega.{arith}
-use native.Mathlib.Numerals.{add-one}
-use borrow.Author.Rules.{rules}
+use mathlib.Core.Path.{◌≡◌}
 use lib.ListN.{length}
-use Rattle.follow.specs.Internal.{passed, pass_from, fuel}
-use Rattle.follow.specs.declared.Answer.TheVariants.{Ended}
+use Rattle.follow.specs.Internal.{pass_from, fuel}
 use Rattle.follow.proofs.sites.all.Given as goal
 
 abbrev pub invariant-loop-why : goal.invariant-loop-why

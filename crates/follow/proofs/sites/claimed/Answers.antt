@@ -2,19 +2,16 @@
 -- Assumes nothing.
 use mathlib.Core.Path.{◌≡◌, ◌∙◌, ap, sym}
 use mathlib.Core.Bool.{true, false}
-use Prim.Native.Nat.{ℕ, suc, ◌+◌, ◌≤◌, ◌<◌}
+use Prim.Native.Nat.{ℕ, suc, ◌<◌}
 use native.Mathlib.Omega.{arith}
 use borrow.Author.Tests.{eq-eqb, ne_eqb}
 use lib.Dec.{eqb}
-use lib.ListN.{length}
 use Rattle.le.specs.Number.{word_at}
-use Rattle.site.specs.Site.{site_of, width_of, put}
+use Rattle.site.specs.Site.{site_of, put}
 use Rattle.site.specs.Walk.{is_last}
-use Rattle.site.proofs.Spans.{wide_chained}
 use Rattle.patch.proofs.Written.{put_is}
 use Rattle.follow.specs.Internal.{pass_from, fuel}
-use Rattle.follow.proofs.Pass.{over, ends, goes}
-use borrow.Author.Rules.{rules}
+use Rattle.follow.proofs.Pass.{ends, goes}
 use Rattle.follow.proofs.sites.claimed.Goals as goal
 
 pub returns-then-f : goal.returns-then-f

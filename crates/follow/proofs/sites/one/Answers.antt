@@ -1,6 +1,6 @@
 -- `follow::sites::one` meets its contract: each way is an answer to the claim.
 -- Assumes nothing.
-use mathlib.Core.Path.{◌≡◌, ◌∙◌, sym}
+use mathlib.Core.Path.{◌∙◌, sym}
 use Prim.Native.Nat.{◌+◌, ◌≤◌}
 use native.Mathlib.Omega.{arith}
 use borrow.Author.Tests.{ltb-false}
@@ -9,7 +9,6 @@ use Rattle.site.specs.Site.{width_of}
 use Rattle.claim.proofs.Cases.{told}
 use Rattle.follow.specs.Internal.{fuel}
 use Rattle.follow.proofs.Pass.{outside, met, free}
-use borrow.Author.Rules.{rules}
 use Rattle.follow.proofs.sites.one.Goals as goal
 
 pub claimed-requires : goal.claimed-requires

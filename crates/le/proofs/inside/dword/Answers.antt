@@ -1,7 +1,6 @@
 -- `le::inside::dword` meets its contract: the law of a number's parts at one word and one word.
 -- Assumes nothing.
 use Rattle.le.proofs.Number.{joined}
-use borrow.Author.Rules.{rules}
 use Rattle.le.proofs.inside.dword.Goals as goal
 
 pub returns : goal.returns

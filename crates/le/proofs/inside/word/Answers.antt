@@ -1,9 +1,6 @@
 -- `le::inside::word` meets its contract: the law of a number's parts at one byte and one byte.
 -- Assumes nothing.
-use Prim.Native.Nat.{◌+◌}
-use native.Mathlib.Omega.{arith}
 use Rattle.le.proofs.Number.{joined, number_one}
-use borrow.Author.Rules.{rules}
 use Rattle.le.proofs.inside.word.Goals as goal
 
 pub returns : goal.returns

@@ -1,13 +1,9 @@
 -- `le::slice::clear` meets its contract. The loop's invariant: the first `i` bytes are 0, and the rest is as it came.
 -- Assumes nothing.
-use mathlib.Core.Path.{◌≡◌, ◌∙◌, refl}
-use mathlib.Core.List.{◌++◌, append-nil}
-use Prim.Native.Nat.{◌≤◌, ◌<◌, ◌-◌}
-use native.Mathlib.Omega.{arith}
-use borrow.Author.Fill.{fill_more}
-use borrow.Author.Rules.{rules}
-use lib.Seq.{drop-length}
-use lib.ListN.{length, drop, replicate, length-set}
+use mathlib.Core.Path.{◌≡◌}
+use mathlib.Core.List.{◌++◌}
+use Prim.Native.Nat.{◌≤◌, ◌-◌}
+use lib.ListN.{length, drop, replicate}
 use Rattle.le.proofs.slice.clear.Given as goal
 
 abbrev pub invariant-loop-i : goal.invariant-loop-i

@@ -1,20 +1,18 @@
 -- `listing::entries::bundle` meets its contract. The loop's invariant: the lines that are left, written from here on, give
 -- what all of them give.
 -- Assumes nothing.
-use mathlib.Core.Path.{◌≡◌, ◌∙◌, refl, sym}
+use mathlib.Core.Path.{◌≡◌, ◌∙◌, sym}
 use mathlib.Core.List.{List, ◌++◌}
-use Prim.Native.Nat.{ℕ, zero, suc, ◌+◌, ◌*◌, ◌-◌, ◌^◌, ◌≤◌, ◌<◌}
+use Prim.Native.Nat.{ℕ, zero, suc, ◌+◌, ◌*◌, ◌-◌, ◌≤◌, ◌<◌}
 use native.Mathlib.Omega.{arith}
 use native.Mathlib.Nat.{not-suc-le-zero}
-use borrow.Author.Rules.{rules}
 use lib.ListN.{length, drop}
 use Rattle.bundle.specs.declared.Kind.{Kind}
 use Rattle.bundle.specs.Bundle.{width_of, entry_of}
 use Rattle.bundle.proofs.Widths.{one_width}
 use Rattle.listing.specs.Internal.{Wrote, slot_lines}
 use Rattle.listing.specs.Listing.{answer_line}
-use Rattle.listing.proofs.Writing.{Still, more, done}
-use Rattle.listing.proofs.Writing as writing
+use Rattle.listing.proofs.Writing.{more}
 use Rattle.listing.proofs.entries.bundle.Goals as goal
 
 -- The first of the lines that are left, and the rest.

@@ -4,10 +4,8 @@
 use mathlib.Core.Path.{◌≡◌, ◌∙◌, refl, ap, sym}
 use mathlib.Core.Bool.{true, false}
 use mathlib.Core.List.{List, [], ◌∷◌, ◌++◌}
-use Prim.Native.Nat.{ℕ, ◌+◌, ◌*◌, ◌-◌, ◌^◌, ◌≤◌, ◌<◌}
+use Prim.Native.Nat.{ℕ, ◌+◌, ◌*◌, ◌^◌, ◌≤◌, ◌<◌}
 use native.Mathlib.Omega.{arith}
-use borrow.Author.Rules.{rules}
-use lib.ListN.{length}
 use Rattle.checks.proofs.Impossible.{never}
 use Rattle.bundle.specs.declared.Bundle.{Bundle}
 use Rattle.tables.specs.Table.{Sound, Unsound, after}
@@ -15,7 +13,7 @@ use Rattle.entry.specs.Table.{EntryTable, table_at, table_of}
 use Rattle.bundle.proofs.Went.{Went, went}
 use Rattle.entry.proofs.Turns.{unrolled, whole}
 use Rattle.listing.specs.Internal.{bundle_lines, bundles_lines, table_lines, is_sound}
-use Rattle.listing.proofs.Writing.{Still, start, more, done}
+use Rattle.listing.proofs.Writing.{start, more, done}
 use Rattle.listing.proofs.entries.bundles.Goals as goal
 
 sound_after : (b : Bundle) (t : EntryTable) → is_sound (after (b ∷ []) t) ≡ true → is_sound t ≡ true
@@ -56,9 +54,9 @@ returns-in-End c =
 pub bundle-next-requires : goal.bundle-next-requires
 bundle-next-requires c =
     let next_is : Went c.args.table.now c.loop-b.place c.loop-b.used c.in-Next.b =
-        let l = c.loop-b in
-        let a = c.args in
-        went a.table.now a.segments l.place l.used c.in-Next.b (sym c.next-step.ensures ∙ c.in-Next.is) in
+    let l = c.loop-b in
+    let a = c.args in
+    went a.table.now a.segments l.place l.used c.in-Next.b (sym c.next-step.ensures ∙ c.in-Next.is) in
     let w = next_is in
     let begin = c in
     let l = c.loop-b in
@@ -67,9 +65,9 @@ bundle-next-requires c =
 pub overflow_add-used : goal.overflow_add-used
 overflow_add-used c =
     let next_is : Went c.args.table.now c.loop-b.place c.loop-b.used c.in-Next.b =
-        let l = c.loop-b in
-        let a = c.args in
-        went a.table.now a.segments l.place l.used c.in-Next.b (sym c.next-step.ensures ∙ c.in-Next.is) in
+    let l = c.loop-b in
+    let a = c.args in
+    went a.table.now a.segments l.place l.used c.in-Next.b (sym c.next-step.ensures ∙ c.in-Next.is) in
     let w = next_is in
     let fits : c.in-Next.b.used + c.in-Next.b.count < 2 ^ 32 = omega (arith, w.few) in
     record { fits = fits }
@@ -77,17 +75,17 @@ overflow_add-used c =
 pub loop-b-smaller : goal.loop-b-smaller
 loop-b-smaller c =
     let next_is : Went c.args.table.now c.loop-b.place c.loop-b.used c.in-Next.b =
-        let l = c.loop-b in
-        let a = c.args in
-        went a.table.now a.segments l.place l.used c.in-Next.b (sym c.next-step.ensures ∙ c.in-Next.is) in
+    let l = c.loop-b in
+    let a = c.args in
+    went a.table.now a.segments l.place l.used c.in-Next.b (sym c.next-step.ensures ∙ c.in-Next.is) in
     let w = next_is in omega (arith, w.on, w.room, w.end)
 
 pub loop-b-preserved : goal.loop-b-preserved
 loop-b-preserved c =
     let next_is : Went c.args.table.now c.loop-b.place c.loop-b.used c.in-Next.b =
-        let l = c.loop-b in
-        let a = c.args in
-        went a.table.now a.segments l.place l.used c.in-Next.b (sym c.next-step.ensures ∙ c.in-Next.is) in
+    let l = c.loop-b in
+    let a = c.args in
+    went a.table.now a.segments l.place l.used c.in-Next.b (sym c.next-step.ensures ∙ c.in-Next.is) in
     let l = c.loop-b in
     let a = c.args in
     let b = c.in-Next.b in

@@ -1,21 +1,13 @@
 -- `listing::entries::bundles` meets its contract. The loop's invariant: the table from here on is sound, and its lines,
 -- written from here on, give what those of the whole table give.
 -- Assumes nothing.
-use mathlib.Core.Path.{◌≡◌, ◌∙◌, refl, ap, sym}
-use mathlib.Core.Bool.{true, false}
-use mathlib.Core.List.{List, [], ◌∷◌, ◌++◌}
-use Prim.Native.Nat.{ℕ, ◌+◌, ◌*◌, ◌-◌, ◌^◌, ◌≤◌, ◌<◌}
-use native.Mathlib.Omega.{arith}
-use borrow.Author.Rules.{rules}
+use mathlib.Core.Path.{◌≡◌}
+use mathlib.Core.Bool.{true}
+use Prim.Native.Nat.{◌+◌, ◌*◌, ◌-◌, ◌≤◌}
 use lib.ListN.{length}
-use Rattle.checks.proofs.Impossible.{never}
-use Rattle.bundle.specs.declared.Bundle.{Bundle}
-use Rattle.tables.specs.Table.{Sound, Unsound, after}
-use Rattle.entry.specs.Table.{EntryTable, table_at, table_of}
-use Rattle.bundle.proofs.Went.{Went, went}
-use Rattle.entry.proofs.Turns.{unrolled, whole}
-use Rattle.listing.specs.Internal.{bundle_lines, bundles_lines, table_lines, is_sound}
-use Rattle.listing.proofs.Writing.{Still, start, more, done}
+use Rattle.entry.specs.Table.{table_at, table_of}
+use Rattle.listing.specs.Internal.{table_lines, is_sound}
+use Rattle.listing.proofs.Writing.{Still}
 use Rattle.listing.proofs.entries.bundles.Given as goal
 
 abbrev pub invariant-loop-b : goal.invariant-loop-b

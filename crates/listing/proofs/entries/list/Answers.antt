@@ -1,14 +1,12 @@
 -- `listing::entries::list` meets its contract: the walk says what the table is, and the parts are written one behind the other.
 -- Assumes nothing.
 use mathlib.Core.Path.{◌≡◌, ◌∙◌, sym}
-use native.Mathlib.Omega.{arith}
 use Rattle.entry.specs.declared.Walked.TheVariants as walked
 use Rattle.entry.specs.Table.{table_of}
 use Rattle.entry.specs.Internal.{walk_of}
 use Rattle.listing.specs.Listing.{entries_of}
 use Rattle.listing.proofs.Writing.{then}
-use Rattle.listing.proofs.Walks.{sound_when_walked, unsound_listing, sound_listing}
-use borrow.Author.Rules.{rules}
+use Rattle.listing.proofs.Walks.{sound_listing}
 use Rattle.listing.proofs.entries.list.Goals as goal
 
 pub returns-in-Sound : goal.returns-in-Sound

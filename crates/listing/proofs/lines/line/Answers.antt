@@ -3,7 +3,6 @@
 use native.Mathlib.Omega.{arith}
 use Rattle.listing.specs.Listing.{line_of}
 use Rattle.listing.proofs.Writing.{then}
-use borrow.Author.Rules.{rules}
 use Rattle.listing.proofs.lines.line.Goals as goal
 
 pub returns : goal.returns

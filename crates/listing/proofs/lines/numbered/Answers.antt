@@ -2,7 +2,6 @@
 -- Assumes nothing.
 use native.Mathlib.Omega.{arith}
 use Rattle.listing.proofs.Writing.{then}
-use borrow.Author.Rules.{rules}
 use Rattle.listing.proofs.lines.numbered.Goals as goal
 
 pub returns : goal.returns

@@ -1,14 +1,13 @@
 -- `listing::text::ascii` meets its contract. The loop's invariant: the first `i` bytes are written.
 -- Assumes nothing.
-use mathlib.Core.Path.{◌≡◌, ◌∙◌, refl, sym}
+use mathlib.Core.Path.{◌≡◌, ◌∙◌, sym}
 use mathlib.Core.List.{[], ◌∷◌, ◌++◌}
-use Prim.Native.Nat.{◌+◌, ◌-◌, ◌≤◌, ◌<◌, ◌^◌}
+use Prim.Native.Nat.{◌+◌, ◌<◌}
 use native.Mathlib.Omega.{arith}
 use native.Mathlib.Numerals.{add-one}
 use lib.ListN.{length, take, get_or}
-use lib.Seq.{take-suc, take-length, length-take-le}
-use Rattle.listing.specs.Internal.{Wrote}
-use Rattle.listing.proofs.Writing.{nothing, then}
+use lib.Seq.{take-suc, length-take-le}
+use Rattle.listing.proofs.Writing.{then}
 use Rattle.listing.proofs.text.ascii.Goals as goal
 
 pub loop-i-preserved : goal.loop-i-preserved

@@ -1,14 +1,9 @@
 -- `listing::text::ascii` meets its contract. The loop's invariant: the first `i` bytes are written.
 -- Assumes nothing.
-use mathlib.Core.Path.{◌≡◌, ◌∙◌, refl, sym}
-use mathlib.Core.List.{[], ◌∷◌, ◌++◌}
-use Prim.Native.Nat.{◌+◌, ◌-◌, ◌≤◌, ◌<◌, ◌^◌}
-use native.Mathlib.Omega.{arith}
-use native.Mathlib.Numerals.{add-one}
-use lib.ListN.{length, take, get_or}
-use lib.Seq.{take-suc, take-length, length-take-le}
+use mathlib.Core.Path.{◌≡◌}
+use Prim.Native.Nat.{◌+◌, ◌-◌, ◌≤◌}
+use lib.ListN.{length, take}
 use Rattle.listing.specs.Internal.{Wrote}
-use Rattle.listing.proofs.Writing.{nothing, then}
 use Rattle.listing.proofs.text.ascii.Given as goal
 
 abbrev pub invariant-loop-i : goal.invariant-loop-i

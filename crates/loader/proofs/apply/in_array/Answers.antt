@@ -10,7 +10,6 @@ use lib.Seq.{length-take-le}
 use Rattle.le.specs.Slice.{zeros}
 use Rattle.loader.proofs.Filled.{copied_whole}
 use Rattle.loader.proofs.Left.{stored_size, accepted_left, refused_left}
-use borrow.Author.Rules.{rules}
 use Rattle.loader.proofs.apply.in_array.Goals as goal
 
 pub returns-in-Refused : goal.returns-in-Refused

@@ -1,7 +1,6 @@
 -- `loader::apply::indexed` meets its contract: an array of zeros is an index already, and stays one when it is filled.
 -- Assumes nothing.
 use Rattle.entry.proofs.Indexed.{zeros_index}
-use borrow.Author.Rules.{rules}
 use Rattle.loader.proofs.apply.indexed.Goals as goal
 
 pub fill-requires : goal.fill-requires

@@ -1,10 +1,8 @@
 -- `loader::apply::large` meets its contract: the array is long enough, and a single zero is an index of any table.
 -- Assumes nothing.
-use mathlib.Core.Path.{sym}
 use Rattle.entry.specs.Ordinal.{table_bytes}
 use Rattle.entry.proofs.Indexed.{zeros_index}
 use Rattle.loader.proofs.Filled.{part_size}
-use borrow.Author.Rules.{rules}
 use Rattle.loader.proofs.apply.large.Goals as goal
 
 pub in_array-requires : goal.in_array-requires

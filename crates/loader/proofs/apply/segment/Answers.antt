@@ -1,10 +1,9 @@
 -- `loader::apply::segment` meets its contract: without records the stored bytes are all there is to do.
 -- Assumes nothing.
-use mathlib.Core.Path.{◌≡◌, refl}
+use mathlib.Core.Path.{◌≡◌}
 use Prim.Native.Nat.{ℕ, ◌+◌, ◌-◌}
 use native.Mathlib.Omega.{arith}
 use Rattle.loader.proofs.Left.{none_left}
-use borrow.Author.Rules.{rules}
 use Rattle.loader.proofs.apply.segment.Goals as goal
 
 -- The part from its first place up to the one behind it.

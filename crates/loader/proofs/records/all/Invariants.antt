@@ -1,17 +1,9 @@
 -- `loader::records::all` meets its contract. The loop's invariant: the pass over the records from here on is that from the first on.
 -- Assumes nothing.
-use mathlib.Core.Path.{◌≡◌, ◌∙◌, refl, ap}
-use Prim.Native.Nat.{ℕ, suc, ◌-◌, ◌≤◌}
-use native.Mathlib.Numerals.{add-one}
-use native.Mathlib.Omega.{arith}
-use borrow.Author.Rules.{rules}
-use lib.ListN.{length, get_or, drop}
-use Rattle.fixup.specs.Record.{record_at}
-use Rattle.fixup.specs.Action.{action_of}
-use Rattle.site.specs.declared.Action.{Action}
-use Rattle.prepare.specs.declared.Answer.TheVariants.{Refused}
-use Rattle.loader.specs.Internal.{ran, on_answer, run_from, actions_in}
-use Rattle.loader.proofs.Turns.{run_on, run_end}
+use mathlib.Core.Path.{◌≡◌}
+use Prim.Native.Nat.{suc, ◌-◌, ◌≤◌}
+use lib.ListN.{length, drop}
+use Rattle.loader.specs.Internal.{run_from, actions_in}
 use Rattle.loader.proofs.records.all.Given as goal
 
 abbrev pub invariant-loop-index : goal.invariant-loop-index

@@ -4,19 +4,17 @@
 use mathlib.Core.Path.{◌≡◌, ◌∙◌, refl, sym, ap}
 use mathlib.Core.Bool.{Bool, true, false, cond}
 use mathlib.Core.List.{List, [], ◌∷◌}
-use Prim.Native.Nat.{ℕ, suc, ◌+◌, ◌-◌, ◌^◌, ◌≤◌, ◌<◌}
+use Prim.Native.Nat.{ℕ, suc, ◌+◌, ◌≤◌, ◌<◌}
 use native.Mathlib.Omega.{arith}
-use borrow.Author.Rules.{rules}
 use lib.ListN.{length}
 use Rattle.le.specs.Number.{byte_at, word_at}
 use Rattle.refusal.specs.declared.Refusal.{Refusal}
-use Rattle.tables.specs.Table.{Table, Sound, Unsound, after, on_table}
+use Rattle.tables.specs.Table.{Table, Sound, Unsound, after}
 use Rattle.tables.specs.Query.{first_of}
 use Rattle.names.specs.declared.Name.{Name}
 use Rattle.names.specs.declared.Request.{Request}
 use Rattle.names.specs.declared.Match.{Match}
 use Rattle.names.specs.declared.Match.TheVariants.{Found, Nothing}
-use Rattle.names.specs.declared.Walked.{Walked}
 use Rattle.names.specs.declared.Walked.TheVariants as walked
 use Rattle.names.specs.Names.{name_at, list_from}
 use Rattle.names.specs.Internal.{wanted, or_else, chosen}

@@ -1,16 +1,12 @@
 -- `names::list::walk` meets its contract. The loop's invariant: what was found so far and the list from here on give what the
 -- whole list gives.
 -- Assumes nothing.
-use mathlib.Core.Path.{◌≡◌, ◌∙◌, refl, sym, ap}
-use mathlib.Core.Bool.{Bool, true, false, cond}
-use mathlib.Core.List.{List, [], ◌∷◌}
-use Prim.Native.Nat.{ℕ, suc, ◌+◌, ◌-◌, ◌^◌, ◌≤◌, ◌<◌}
-use native.Mathlib.Omega.{arith}
-use borrow.Author.Rules.{rules}
+use mathlib.Core.Path.{◌≡◌}
+use mathlib.Core.List.{List}
+use Prim.Native.Nat.{ℕ, ◌+◌, ◌-◌, ◌≤◌}
 use lib.ListN.{length}
-use Rattle.le.specs.Number.{byte_at, word_at}
 use Rattle.refusal.specs.declared.Refusal.{Refusal}
-use Rattle.tables.specs.Table.{Table, Sound, Unsound, after, on_table}
+use Rattle.tables.specs.Table.{Table, on_table}
 use Rattle.tables.specs.Query.{first_of}
 use Rattle.names.specs.declared.Name.{Name}
 use Rattle.names.specs.declared.Request.{Request}
@@ -18,9 +14,8 @@ use Rattle.names.specs.declared.Match.{Match}
 use Rattle.names.specs.declared.Match.TheVariants.{Found, Nothing}
 use Rattle.names.specs.declared.Walked.{Walked}
 use Rattle.names.specs.declared.Walked.TheVariants as walked
-use Rattle.names.specs.Names.{name_at, list_from}
-use Rattle.names.specs.Internal.{wanted, or_else, chosen}
-use Rattle.names.proofs.Listed.{past, ended, cut, one_name}
+use Rattle.names.specs.Names.{list_from}
+use Rattle.names.specs.Internal.{wanted, or_else}
 use Rattle.names.proofs.list.walk.Given as goal
 
 -- What is found in all, where `used` names come before the list `t` and `m` was found there.

@@ -1,15 +1,8 @@
 -- `ready::found::segment` meets its contract: the check of the number, the walk of the entry table, then the record's answer.
 -- Assumes nothing.
-use mathlib.Core.Path.{◌≡◌, ◌∙◌, sym}
-use mathlib.Core.Bool.{true, false}
+use mathlib.Core.Path.{◌∙◌, sym}
 use native.Mathlib.Omega.{arith}
-use Rattle.header.specs.Header.{lacks}
 use Rattle.header.proofs.Numbered.{has}
-use Rattle.segment.specs.declared.Answer.TheVariants as segments
-use Rattle.entry.specs.Table.{table_of}
-use Rattle.ready.specs.Internal.{found_of}
-use Rattle.ready.proofs.Parts.{unsound, sound}
-use borrow.Author.Rules.{rules}
 use Rattle.ready.proofs.found.segment.Goals as goal
 
 pub overflow_sub-number : goal.overflow_sub-number

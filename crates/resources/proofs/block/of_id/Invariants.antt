@@ -1,16 +1,8 @@
 -- `resources::block::of_id` meets its contract. The loop's invariant: the resources that are left decide what all of them do.
 -- Assumes nothing.
-use mathlib.Core.Path.{◌≡◌, ◌∙◌, sym, ap}
-use mathlib.Core.Bool.{true, false, cond}
-use Prim.Native.Nat.{suc, ◌+◌, ◌-◌, ◌≤◌, ◌<◌}
-use native.Mathlib.Omega.{arith}
-use borrow.Author.Rules.{rules}
-use borrow.Author.Tests.{eq-eqb, ne_eqb}
-use lib.Dec.{eqb}
-use Rattle.tables.specs.Query.{first_of}
-use Rattle.resources.specs.declared.Match.TheVariants.{Found}
-use Rattle.resources.specs.Resource.{resource_at, resources_from}
-use Rattle.resources.proofs.InBlock.{idFrom, one_more}
+use mathlib.Core.Path.{◌≡◌}
+use Prim.Native.Nat.{◌-◌, ◌≤◌}
+use Rattle.resources.proofs.InBlock.{idFrom}
 use Rattle.resources.proofs.block.of_id.Given as goal
 
 abbrev pub invariant-loop-index : goal.invariant-loop-index

@@ -5,7 +5,6 @@ use Prim.Native.Nat.{◌-◌, ◌≤◌, ◌<◌}
 use native.Mathlib.Omega.{arith}
 use Rattle.resources.specs.declared.Match.TheVariants.{Found}
 use Rattle.resources.proofs.InBlock.{number_before, number_behind, number_here}
-use borrow.Author.Rules.{rules}
 use Rattle.resources.proofs.block.of_number.Goals as goal
 
 pub returns-then-number-b : goal.returns-then-number-b

@@ -2,10 +2,8 @@
 -- Assumes nothing.
 use mathlib.Core.Path.{◌≡◌, ◌∙◌, sym}
 use mathlib.Core.Bool.{true, false}
-use borrow.Author.Tests.{not-true, not-false}
 use Rattle.resources.specs.Resource.{high_bit}
 use Rattle.resources.proofs.InBlock.{words_low, kind_other, words_id}
-use borrow.Author.Rules.{rules}
 use Rattle.resources.proofs.block.of_words.Goals as goal
 
 pub returns-then-not-high_bit : goal.returns-then-not-high_bit

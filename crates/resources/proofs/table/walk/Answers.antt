@@ -3,13 +3,12 @@
 -- Assumes nothing.
 use mathlib.Core.Path.{◌≡◌, ◌∙◌, refl, sym, ap}
 use mathlib.Core.List.{List, ◌++◌}
-use Prim.Native.Nat.{ℕ, ◌+◌, ◌*◌, ◌-◌, ◌^◌, ◌≤◌, ◌<◌}
+use Prim.Native.Nat.{ℕ, ◌+◌, ◌*◌, ◌≤◌, ◌<◌}
 use native.Mathlib.Omega.{arith}
-use borrow.Author.Rules.{rules}
 use lib.ListN.{length}
 use Rattle.le.specs.Number.{word_at}
 use Rattle.refusal.specs.declared.Refusal.{Refusal}
-use Rattle.tables.specs.Table.{Table, Sound, Unsound, after, on_table}
+use Rattle.tables.specs.Table.{Table, Sound, Unsound, after}
 use Rattle.tables.specs.Query.{first_of}
 use Rattle.tables.proofs.Query.{first_append, first_through}
 use Rattle.resources.specs.declared.Resource.{Resource}
@@ -17,10 +16,9 @@ use Rattle.resources.specs.declared.block.Block.{Block}
 use Rattle.resources.specs.declared.Request.{Request}
 use Rattle.resources.specs.declared.Match.{Match}
 use Rattle.resources.specs.declared.Match.TheVariants.{Found, Nothing}
-use Rattle.resources.specs.declared.Walked.{Walked}
 use Rattle.resources.specs.declared.Walked.TheVariants as walked
-use Rattle.resources.specs.Resource.{block_at, blocks_from, block_resources}
-use Rattle.resources.specs.Internal.{or_else, wanted, walk_of}
+use Rattle.resources.specs.Resource.{block_at, block_resources}
+use Rattle.resources.specs.Internal.{or_else, wanted}
 use Rattle.resources.proofs.Blocks.{table_at, past, ended, cut, one_block}
 use Rattle.resources.proofs.table.walk.Invariants.{in_all}
 use Rattle.resources.proofs.table.walk.Goals as goal

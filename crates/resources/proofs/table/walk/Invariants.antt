@@ -1,27 +1,21 @@
 -- `resources::table::walk` meets its contract. The loop's invariant: what was found so far and the blocks from here on give
 -- what the whole table gives.
 -- Assumes nothing.
-use mathlib.Core.Path.{◌≡◌, ◌∙◌, refl, sym, ap}
-use mathlib.Core.List.{List, ◌++◌}
-use Prim.Native.Nat.{ℕ, ◌+◌, ◌*◌, ◌-◌, ◌^◌, ◌≤◌, ◌<◌}
-use native.Mathlib.Omega.{arith}
-use borrow.Author.Rules.{rules}
+use mathlib.Core.Path.{◌≡◌}
+use Prim.Native.Nat.{◌-◌, ◌^◌, ◌≤◌, ◌<◌}
 use lib.ListN.{length}
-use Rattle.le.specs.Number.{word_at}
 use Rattle.refusal.specs.declared.Refusal.{Refusal}
-use Rattle.tables.specs.Table.{Table, Sound, Unsound, after, on_table}
+use Rattle.tables.specs.Table.{Table, on_table}
 use Rattle.tables.specs.Query.{first_of}
-use Rattle.tables.proofs.Query.{first_append, first_through}
 use Rattle.resources.specs.declared.Resource.{Resource}
-use Rattle.resources.specs.declared.block.Block.{Block}
 use Rattle.resources.specs.declared.Request.{Request}
 use Rattle.resources.specs.declared.Match.{Match}
 use Rattle.resources.specs.declared.Match.TheVariants.{Found, Nothing}
 use Rattle.resources.specs.declared.Walked.{Walked}
 use Rattle.resources.specs.declared.Walked.TheVariants as walked
-use Rattle.resources.specs.Resource.{block_at, blocks_from, block_resources}
+use Rattle.resources.specs.Resource.{blocks_from}
 use Rattle.resources.specs.Internal.{or_else, wanted, walk_of}
-use Rattle.resources.proofs.Blocks.{table_at, past, ended, cut, one_block}
+use Rattle.resources.proofs.Blocks.{table_at}
 use Rattle.resources.proofs.table.walk.Given as goal
 
 -- What is found in all, where `m` was found before the table `t`.

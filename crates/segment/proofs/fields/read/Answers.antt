@@ -7,8 +7,7 @@ use Rattle.segment.proofs.fields.read.Goals as goal
 
 pub returns-then-flags-eq1 : goal.returns-then-flags-eq1
 unfolding segment_at
-returns-then-flags-eq1 c =
-    (
+returns-then-flags-eq1 c = (
   rw (
     c.word-then-flags-eq1.ensures,
     c.scaled-start.ensures.0,
@@ -26,8 +25,7 @@ returns-then-flags-eq1 c =
 
 pub returns : goal.returns
 unfolding segment_at
-returns c =
-    (
+returns c = (
   rw (
     c.scaled-start.ensures.0,
     c.stored-stored.ensures.0,

@@ -1,6 +1,5 @@
 -- `target::address::of_entry` meets its contract: the entry's answer decides.
 -- Assumes nothing.
-use borrow.Author.Rules.{rules}
 use Rattle.target.proofs.address.of_entry.Goals as goal
 
 pub returns-in-Accepted : goal.returns-in-Accepted

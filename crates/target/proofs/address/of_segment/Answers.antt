@@ -1,12 +1,8 @@
 -- `target::address::of_segment` meets its contract: the segments of a module count from 1.
 -- Assumes nothing.
-use mathlib.Core.Path.{◌≡◌, sym, ◌∙◌}
-use mathlib.Core.Bool.{true}
-use Prim.Native.Nat.{◌%◌}
+use mathlib.Core.Path.{sym, ◌∙◌}
 use native.Mathlib.Omega.{arith}
-use Rattle.header.specs.Header.{lacks}
 use Rattle.header.proofs.Numbered.{has}
-use borrow.Author.Rules.{rules}
 use Rattle.target.proofs.address.of_segment.Goals as goal
 
 pub in_segment-requires : goal.in_segment-requires

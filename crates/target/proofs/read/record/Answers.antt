@@ -6,7 +6,6 @@ use native.Mathlib.Omega.{arith}
 use lib.ListN.{take, drop}
 use Rattle.fixup.specs.Record.{record_at}
 use Rattle.fixup.proofs.Fields.{own_bytes, from_own}
-use borrow.Author.Rules.{rules}
 use Rattle.target.proofs.read.record.Goals as goal
 
 pub returns-then-end-part : goal.returns-then-end-part
