@@ -2,11 +2,13 @@
 -- Assumes nothing.
 use mathlib.Core.Path.{◌≡◌, refl}
 use mathlib.Core.Bool.{Bool, true, false}
+use mathlib.Core.List.{List}
 use Prim.Native.Nat.{ℕ, ◌/◌, ◌%◌, ◌≤◌, ◌<◌}
 use native.Mathlib.Omega.{arith}
 use borrow.Author.Tests.{eq-eqb, ne_eqb, eqb-false}
 use lib.Dec.{eqb}
-use Rattle.segment.specs.Segment.{full_of, stored_of, records_follow}
+use Rattle.header.specs.declared.Header.{Header}
+use Rattle.segment.specs.Segment.{segment_at, sector_of, full_of, stored_of, records_follow}
 
 -- Flag 0100h, tested against 0.
 pub follow_no : (flags : ℕ) → flags / 0x100 % 2 ≡ 0 → records_follow flags ≡ false
@@ -48,3 +50,12 @@ stored_some sector len h = go (eqb sector 0) refl
     go : (t : Bool) → eqb sector 0 ≡ t → eqb sector 0 ≡ false
     go true e = absurd (h (rw e))
     go false e = e
+
+-- The same of what a record says.
+pub sector_none : (image : List ℕ) (h : Header) (index : ℕ) → (segment_at image h index).stored ≡ 0 → eqb (sector_of image h index) 0 ≡ true
+unfolding segment_at
+sector_none image h index e = stored_none _ _ e
+
+pub sector_some : (image : List ℕ) (h : Header) (index : ℕ) → ((segment_at image h index).stored ≡ 0 → ⊥) → eqb (sector_of image h index) 0 ≡ false
+unfolding segment_at
+sector_some image h index e = stored_some _ _ e

@@ -44,6 +44,7 @@ fn scaled(sector: u16, unit: u32) -> usize
 }
 
 // The stored length of a segment at a sector, from the length word.
+#[tactic(auto, unfolding(crate::specs::Segment::stored_of))]
 fn stored(sector: u16, length: u16) -> u32
     ensures { (result ≡ stored_of sector length) × (result ≤ 65536) }
 {
@@ -54,6 +55,7 @@ fn stored(sector: u16, length: u16) -> u32
 }
 
 // A word in which 0 stands for 65,536.
+#[tactic(auto, unfolding(crate::specs::Segment::full_of))]
 fn full(w: u16) -> u32
     ensures { (result ≡ full_of w) × (result ≤ 65536) }
 {

@@ -45,7 +45,7 @@ pub fn by_number(image: &[u8], number: u32) -> Answer
 }
 
 // The segment whose record has an index, counted from 0, once the number is known good: refusals 10, 11 and 9.
-#[tactic(auto, unfolding(crate::specs::Segment::record_of, crate::specs::Segment::segment_checks))]
+#[tactic(auto, using(crate::proofs::Words::sector_none, crate::proofs::Words::sector_some), unfolding(crate::specs::Segment::record_of, crate::specs::Segment::segment_checks))]
 pub fn record(image: &[u8], h: Header, index: u32) -> Answer
     ensures { result ≡ record_of image.now h index }
 {
