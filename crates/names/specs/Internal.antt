@@ -49,8 +49,8 @@ walk_of image t p asked name = on_table t walks.Unsound λ ns. walks.Sound (onwa
 
 -- The answer for what was found.
 abbrev pub concluded : match.Match → Refusal → Answer
-concluded (Found n) none = Accepted n
-concluded Nothing none = Refused none
+concluded (Found n) missing = Accepted n
+concluded Nothing missing = Refused missing
 
 -- The answer from the nonresident list, behind what the resident one gave.
 unfoldable pub answer_behind : List ℕ → Header → Progress → request.Request → List ℕ → Refusal → Answer

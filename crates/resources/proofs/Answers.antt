@@ -58,14 +58,14 @@ abbrev pub answer_from : ℕ → Table Resource Refusal → Request → Refusal 
 answer_from len t asked none = on_table t Refused λ rs. concluded len (first_of (wanted asked) Found Nothing rs) none
 
 pub sound_answer : (len : ℕ) (t : Table Resource Refusal) (asked : Request) (none : Refusal) (m : Match) → walk_of t asked ≡ walked.Sound m → answer_from len t asked none ≡ concluded len m none
-sound_answer len (Sound rs) asked none m e =
+sound_answer len (Sound rs) asked missing m e =
     let is : m ≡ first_of (wanted asked) Found Nothing rs = cc in
     rw is
-sound_answer len (Unsound why) asked none m e = never cc
+sound_answer len (Unsound why) asked missing m e = never cc
 
 pub unsound_answer : (len : ℕ) (t : Table Resource Refusal) (asked : Request) (none : Refusal) (why : Refusal) → walk_of t asked ≡ walked.Unsound why → answer_from len t asked none ≡ Refused why
-unsound_answer len (Sound rs) asked none why e = never cc
-unsound_answer len (Unsound other) asked none why e = let is : why ≡ other = cc in rw is
+unsound_answer len (Sound rs) asked missing why e = never cc
+unsound_answer len (Unsound other) asked missing why e = let is : why ≡ other = cc in rw is
 
 -- The resources of a sound table have their numbers.
 numbers_from : (image : List ℕ) (shift at : ℕ) (rs : List Resource) → blocks_from image shift at ≡ Sound rs → Numbered (λ (r : Resource). r.number) 1 rs

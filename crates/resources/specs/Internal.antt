@@ -43,8 +43,8 @@ walk_of t asked = on_table t walks.Unsound λ rs. walks.Sound (first_of (wanted 
 
 -- The answer for what was found.
 abbrev pub concluded : ℕ → match.Match → Refusal → Answer
-concluded len (Found r) none = data_checked len r
-concluded len Nothing none = Refused none
+concluded len (Found r) missing = data_checked len r
+concluded len Nothing missing = Refused missing
 
 unfoldable pub answer_in : List ℕ → Header → request.Request → Refusal → Answer
 answer_in image h asked none = on_table (resources_of image h) Refused λ rs. concluded (length image) (first_of (wanted asked) Found Nothing rs) none

@@ -56,6 +56,7 @@ fn of_number(image: &[u8], b: Block, number: usize) -> Match
 }
 
 // The first resource with these words.
+#[tactic(auto, using(crate::proofs::InBlock::words_low, crate::proofs::InBlock::kind_other, crate::proofs::InBlock::words_id))]
 fn of_words(image: &[u8], b: Block, kind: u32, id: u32) -> Match
     requires { Whole image.now b }
     ensures { result ≡ first_of (has_kind_and_id kind id) Match.Found Match.Nothing (block_resources image.now b) }
