@@ -12,15 +12,15 @@ words ws = gathered (bytes_of 2) ws
 -- the segment count at 1C, the segment table's place, 64, at 22, and at 04 and 06 an entry table of so many bytes right behind
 -- the segment table. The alignment shift is 0.
 abbrev pub image_of : List ℕ → ℕ → List ℕ → List ℕ
-image_of segments entryBytes behind =
+image_of segments entry_bytes behind =
     let count = length segments / 4 in
     words ((0x5a4d ∷ zeros 29) ++ (64 ∷ 0 ∷ []))
-    ++ words ((0x454e ∷ 0 ∷ (64 + 8 * count) ∷ entryBytes ∷ zeros 10) ++ (count ∷ 0 ∷ 0 ∷ 64 ∷ zeros 14))
+    ++ words ((0x454e ∷ 0 ∷ (64 + 8 * count) ∷ entry_bytes ∷ zeros 10) ++ (count ∷ 0 ∷ 0 ∷ 64 ∷ zeros 14))
     ++ words segments
     ++ behind
 
 -- "P10 entry table 01 01 01 10 00 02 00 01 FF 03 CD 3F 02 20 00 00, two segments", of which the header gives so many bytes.
 abbrev pub p10 : ℕ → List ℕ
-p10 entryBytes =
-    image_of (zeros 8) entryBytes
+p10 entry_bytes =
+    image_of (zeros 8) entry_bytes
     (0x01 ∷ 0x01 ∷ 0x01 ∷ 0x10 ∷ 0x00 ∷ 0x02 ∷ 0x00 ∷ 0x01 ∷ 0xff ∷ 0x03 ∷ 0xcd ∷ 0x3f ∷ 0x02 ∷ 0x20 ∷ 0x00 ∷ 0x00 ∷ [])

@@ -26,15 +26,15 @@ use Rattle.follow.proofs.Marks.{marks_length, taken_meets}
 
 module _ (stored : List ℕ) where
   -- The marks of some sites, and the stored bytes with these sites written.
-  abbrev pub marksOf : List Site → List ℕ
-  marksOf sites = marked (length stored) sites
+  abbrev pub marks_of : List Site → List ℕ
+  marks_of sites = marked (length stored) sites
 
   abbrev pub written_of : List Site → List ℕ
   written_of sites = in_turn (put stored) sites stored
 
   -- What a pass gave, where following the sites gives that.
   abbrev pub Ties : walk.Followed → Pass → Type 0
-  Ties (walk.Ended sites) p = p ≡ passed (Ended (length sites)) (marksOf sites) (written_of sites)
+  Ties (walk.Ended sites) p = p ≡ passed (Ended (length sites)) (marks_of sites) (written_of sites)
   Ties (walk.Halted why) p = p.answer ≡ Halted why
 
   abbrev halted : List ℕ → List ℕ → Refusal → Pass
@@ -48,25 +48,25 @@ module _ (stored : List ℕ) where
 
   module _ (f : Fixup) where
     -- One site more.
-    more : (at : ℕ) (earlier : List Site) → (suc (length earlier) ≡ length (earlier ++ site_of f at ∷ [])) × (with_span f at (marksOf earlier) ≡ marksOf (earlier ++ site_of f at ∷ [])) × (put stored (site_of f at) (written_of earlier) ≡ written_of (earlier ++ site_of f at ∷ []))
+    more : (at : ℕ) (earlier : List Site) → (suc (length earlier) ≡ length (earlier ++ site_of f at ∷ [])) × (with_span f at (marks_of earlier) ≡ marks_of (earlier ++ site_of f at ∷ [])) × (put stored (site_of f at) (written_of earlier) ≡ written_of (earlier ++ site_of f at ∷ []))
     more at earlier =
         (omega (arith, length-append earlier (site_of f at ∷ [])), sym (turns_append mark earlier (site_of f at ∷ []) _), sym (turns_append (put stored) earlier (site_of f at ∷ []) stored))
 
-    last_tie : (last : Bool) (at : ℕ) (earlier : List Site) (onward : walk.Followed) (pass : Pass) → Ties onward pass → Ties (cond last (walk.Ended (earlier ++ site_of f at ∷ [])) onward) (cond last (passed (Ended (suc (length earlier))) (with_span f at (marksOf earlier)) (put stored (site_of f at) (written_of earlier))) pass)
+    last_tie : (last : Bool) (at : ℕ) (earlier : List Site) (onward : walk.Followed) (pass : Pass) → Ties onward pass → Ties (cond last (walk.Ended (earlier ++ site_of f at ∷ [])) onward) (cond last (passed (Ended (suc (length earlier))) (with_span f at (marks_of earlier)) (put stored (site_of f at) (written_of earlier))) pass)
     last_tie true at earlier onward pass t = let m = more at earlier in rw (m.0, m.1, m.2)
     last_tie false at earlier onward pass t = t
 
-    onward_tie : (left at : ℕ) (earlier : List Site) (onward : walk.Followed) → Ties onward (pass_from left stored f (word_at stored at) (length (earlier ++ site_of f at ∷ [])) (marksOf (earlier ++ site_of f at ∷ [])) (written_of (earlier ++ site_of f at ∷ []))) → Ties onward (pass_from left stored f (word_at stored at) (suc (length earlier)) (with_span f at (marksOf earlier)) (put stored (site_of f at) (written_of earlier)))
+    onward_tie : (left at : ℕ) (earlier : List Site) (onward : walk.Followed) → Ties onward (pass_from left stored f (word_at stored at) (length (earlier ++ site_of f at ∷ [])) (marks_of (earlier ++ site_of f at ∷ [])) (written_of (earlier ++ site_of f at ∷ []))) → Ties onward (pass_from left stored f (word_at stored at) (suc (length earlier)) (with_span f at (marks_of earlier)) (put stored (site_of f at) (written_of earlier)))
     onward_tie left at earlier onward t = let m = more at earlier in rw (m.0, m.1, m.2) t
 
-    pub ties : (left at : ℕ) (earlier : List Site) → Good stored earlier → Ties (follow_from left stored f at earlier) (pass_from left stored f at (length earlier) (marksOf earlier) (written_of earlier))
+    pub ties : (left at : ℕ) (earlier : List Site) → Good stored earlier → Ties (follow_from left stored f at earlier) (pass_from left stored f at (length earlier) (marks_of earlier) (written_of earlier))
     unfolding follow_from pass_from
     ties zero at earlier g =
         rw (marks_length stored earlier g)
-        (checks_tie (ltb (length stored) (end_of (site_of f at))) (meets_one (site_of f at) earlier) (taken (width_of f.kind f.additive) (marksOf earlier) at) (marksOf earlier) (written_of earlier) (taken_meets stored earlier g (site_of f at)) _ _ (λ inside free. refl))
+        (checks_tie (ltb (length stored) (end_of (site_of f at))) (meets_one (site_of f at) earlier) (taken (width_of f.kind f.additive) (marks_of earlier) at) (marks_of earlier) (written_of earlier) (taken_meets stored earlier g (site_of f at)) _ _ (λ inside free. refl))
     ties (suc left) at earlier g =
         rw (marks_length stored earlier g)
-        (checks_tie (ltb (length stored) (end_of (site_of f at))) (meets_one (site_of f at) earlier) (taken (width_of f.kind f.additive) (marksOf earlier) at) (marksOf earlier) (written_of earlier) (taken_meets stored earlier g (site_of f at)) _ _ (λ inside free. last_tie (is_last f (word_at stored at)) at earlier _ _ (onward_tie left at earlier (follow_from left stored f (word_at stored at) (earlier ++ site_of f at ∷ [])) (ties left (word_at stored at) (earlier ++ site_of f at ∷ []) (good_more stored earlier (site_of f at) g inside free)))))
+        (checks_tie (ltb (length stored) (end_of (site_of f at))) (meets_one (site_of f at) earlier) (taken (width_of f.kind f.additive) (marks_of earlier) at) (marks_of earlier) (written_of earlier) (taken_meets stored earlier g (site_of f at)) _ _ (λ inside free. last_tie (is_last f (word_at stored at)) at earlier _ _ (onward_tie left at earlier (follow_from left stored f (word_at stored at) (earlier ++ site_of f at ∷ [])) (ties left (word_at stored at) (earlier ++ site_of f at ∷ []) (good_more stored earlier (site_of f at) g inside free)))))
 
-    pub all_tie : (earlier : List Site) → Good stored earlier → Ties (followed stored f earlier) (pass_of stored f (length earlier) (marksOf earlier) (written_of earlier))
+    pub all_tie : (earlier : List Site) → Good stored earlier → Ties (followed stored f earlier) (pass_of stored f (length earlier) (marks_of earlier) (written_of earlier))
     all_tie earlier g = ties _ f.site earlier g

@@ -19,7 +19,7 @@ use Rattle.site.specs.Prepared.{unfixed, prepared, marked}
 use Rattle.site.specs.Walk.{Walk, Walked, Stopped, walk_from, walk_of}
 use Rattle.site.proofs.Accept.{accepted_sound}
 use Rattle.site.proofs.Bytes.{exactly, prepared_front, marked_front}
-use Rattle.follow.proofs.Walks.{marksOf, written_of}
+use Rattle.follow.proofs.Walks.{marks_of, written_of}
 use Rattle.prepare.specs.Prepare.{Outcome, request_of, outcome_of}
 use Rattle.prepare.specs.declared.Answer.{Answer}
 use Rattle.prepare.specs.declared.Answer.TheVariants.{Accepted, Refused}
@@ -28,59 +28,59 @@ use Rattle.loader.proofs.Filled.{zeros_front, zeros_behind}
 use Rattle.loader.proofs.Walks.{Runs, runs}
 
 module _ (image : List ℕ) (h : Header) (s : Segment) (selectors answers output marks : List ℕ) (room : Room image h s answers output marks) where
-  abbrev pub storedIn : List ℕ
-  storedIn = take s.stored (drop s.start image)
+  abbrev pub stored_in : List ℕ
+  stored_in = take s.stored (drop s.start image)
 
-  pub stored_size : length storedIn ≡ s.stored
+  pub stored_size : length stored_in ≡ s.stored
   stored_size = omega (arith, room.stored, length-take s.stored (drop s.start image), length-drop s.start image)
 
   abbrev outcome : Walk → Outcome
   outcome w = outcome_of (request_of image 0 selectors answers 0 (length marks)) s w
 
   abbrev walk : Walk
-  walk = walk_of storedIn (actions_in image h s selectors answers)
+  walk = walk_of stored_in (actions_in image h s selectors answers)
 
-  fits : length storedIn ≤ s.allocation
+  fits : length stored_in ≤ s.allocation
   fits = omega (arith, stored_size, room.allocation)
 
   -- The output with all sites written, and the marks of all sites.
-  output_left : (sites : List Site) → All (Inside storedIn) sites → Pairs Apart sites → unfixed (written_of storedIn sites) s.allocation ++ drop s.allocation output ≡ prepared storedIn s.allocation sites ++ drop (length (prepared storedIn s.allocation sites)) output
-  output_left sites inside apart = rw (prepared_front storedIn s.allocation sites inside, (exactly storedIn s.allocation fits sites inside apart).size)
+  output_left : (sites : List Site) → All (Inside stored_in) sites → Pairs Apart sites → unfixed (written_of stored_in sites) s.allocation ++ drop s.allocation output ≡ prepared stored_in s.allocation sites ++ drop (length (prepared stored_in s.allocation sites)) output
+  output_left sites inside apart = rw (prepared_front stored_in s.allocation sites inside, (exactly stored_in s.allocation fits sites inside apart).size)
 
-  marks_left : (sites : List Site) → All (Inside storedIn) sites → marksOf storedIn sites ++ drop (length storedIn) marks ≡ marked (length marks) sites
+  marks_left : (sites : List Site) → All (Inside stored_in) sites → marks_of stored_in sites ++ drop (length stored_in) marks ≡ marked (length marks) sites
   marks_left sites inside =
-      let few : length storedIn ≤ length marks = omega (arith, stored_size, room.marks_fit) in
-      let behind : drop (length storedIn) marks ≡ zeros (length marks - length storedIn) = ap (drop (length storedIn)) room.unmarked ∙ zeros_behind (length storedIn) (length marks) in
-      rw behind (marked_front (length storedIn) (length marks) sites few inside)
+      let few : length stored_in ≤ length marks = omega (arith, stored_size, room.marks_fit) in
+      let behind : drop (length stored_in) marks ≡ zeros (length marks - length stored_in) = ap (drop (length stored_in)) room.unmarked ∙ zeros_behind (length stored_in) (length marks) in
+      rw behind (marked_front (length stored_in) (length marks) sites few inside)
 
-  pub none_left : s.records ≡ 0 → Leaves (outcome_in image h s selectors answers marks) (Accepted 0) output (unfixed storedIn s.allocation ++ drop s.allocation output) marks marks
+  pub none_left : s.records ≡ 0 → Leaves (outcome_in image h s selectors answers marks) (Accepted 0) output (unfixed stored_in s.allocation ++ drop s.allocation output) marks marks
   unfolding walk_from
   none_left none = rw none (record { answer_is = refl; output_is = output_left [] tt tt; marks_are = room.unmarked })
 
   -- What the pass gave, started with no mark on the stored bytes.
   module _ (marked' written : List ℕ) where
     abbrev pub Gave : Answer → Type 0
-    Gave answer = ran answer marked' written ≡ run_from storedIn (actions_in image h s selectors answers) 1 0 (take (length storedIn) marks) storedIn
+    Gave answer = ran answer marked' written ≡ run_from stored_in (actions_in image h s selectors answers) 1 0 (take (length stored_in) marks) stored_in
 
-    from_zeros : take (length storedIn) marks ≡ zeros (length storedIn)
+    from_zeros : take (length stored_in) marks ≡ zeros (length stored_in)
     from_zeros =
-        let few : length storedIn ≤ length marks = omega (arith, stored_size, room.marks_fit) in
-        ap (take (length storedIn)) room.unmarked ∙ zeros_front (length storedIn) (length marks) few
+        let few : length stored_in ≤ length marks = omega (arith, stored_size, room.marks_fit) in
+        ap (take (length stored_in)) room.unmarked ∙ zeros_front (length stored_in) (length marks) few
 
-    ties : (answer : Answer) → Gave answer → (w : Walk) → walk ≡ w → Runs storedIn w (ran answer marked' written)
-    ties answer gave w e = rw (← e, gave, from_zeros) (runs storedIn (actions_in image h s selectors answers))
+    ties : (answer : Answer) → Gave answer → (w : Walk) → walk ≡ w → Runs stored_in w (ran answer marked' written)
+    ties answer gave w e = rw (← e, gave, from_zeros) (runs stored_in (actions_in image h s selectors answers))
 
-    pub accepted_left : (count : ℕ) → Gave (Accepted count) → Leaves (outcome_in image h s selectors answers marks) (Accepted count) output (unfixed written s.allocation ++ drop s.allocation output) marks (marked' ++ drop (length storedIn) marks)
+    pub accepted_left : (count : ℕ) → Gave (Accepted count) → Leaves (outcome_in image h s selectors answers marks) (Accepted count) output (unfixed written s.allocation ++ drop s.allocation output) marks (marked' ++ drop (length stored_in) marks)
     accepted_left count gave = go walk refl (ties (Accepted count) gave walk refl)
       where
-        parts : (sites : List Site) → ran (Accepted count) marked' written ≡ ran (Accepted (length sites)) (marksOf storedIn sites) (written_of storedIn sites) → (count ≡ length sites) × (marked' ≡ marksOf storedIn sites) × (written ≡ written_of storedIn sites)
+        parts : (sites : List Site) → ran (Accepted count) marked' written ≡ ran (Accepted (length sites)) (marks_of stored_in sites) (written_of stored_in sites) → (count ≡ length sites) × (marked' ≡ marks_of stored_in sites) × (written ≡ written_of stored_in sites)
         parts sites e =
             let answer : Accepted count ≡ Accepted (length sites) = ap (λ (r : Run). r.answer) e in
             (cc, ap (λ (r : Run). r.marks) e, ap (λ (r : Run). r.bytes) e)
 
-        go : (w : Walk) → walk ≡ w → Runs storedIn w (ran (Accepted count) marked' written) → Leaves (outcome w) (Accepted count) output (unfixed written s.allocation ++ drop s.allocation output) marks (marked' ++ drop (length storedIn) marks)
+        go : (w : Walk) → walk ≡ w → Runs stored_in w (ran (Accepted count) marked' written) → Leaves (outcome w) (Accepted count) output (unfixed written s.allocation ++ drop s.allocation output) marks (marked' ++ drop (length stored_in) marks)
         go (Walked sites) e t =
-            let a = accepted_sound storedIn (actions_in image h s selectors answers) sites e in
+            let a = accepted_sound stored_in (actions_in image h s selectors answers) sites e in
             let inside = rw (← a.1) at a.0.inside in
             let apart = rw (← a.1) at a.0.apart in
             let p = parts sites t in
@@ -90,6 +90,6 @@ module _ (image : List ℕ) (h : Header) (s : Segment) (selectors answers output
     pub refused_left : (why : Refusal) (number : ℕ) → Gave (Refused why number) → Leaves (outcome_in image h s selectors answers marks) (Refused why number) output output marks (zeros (length marks))
     refused_left why number gave = go walk (ties (Refused why number) gave walk refl)
       where
-        go : (w : Walk) → Runs storedIn w (ran (Refused why number) marked' written) → Leaves (outcome w) (Refused why number) output output marks (zeros (length marks))
+        go : (w : Walk) → Runs stored_in w (ran (Refused why number) marked' written) → Leaves (outcome w) (Refused why number) output output marks (zeros (length marks))
         go (Walked sites) t = let answer : Refused why number ≡ Accepted (length sites) = ap (λ (r : Run). r.answer) t in never cc
         go (Stopped reason at) t = record { answer_is = t; output_is = refl; marks_are = refl }

@@ -13,22 +13,22 @@ use Rattle.site.specs.declared.Action.TheVariants.{Skip, Apply, Refuse}
 use Rattle.site.proofs.Meets.{Good}
 use Rattle.site.proofs.Accept.{follow_accepted}
 use Rattle.follow.specs.Internal.{Pass, pass_of}
-use Rattle.follow.proofs.Walks.{marksOf, written_of, Ties, all_tie}
+use Rattle.follow.proofs.Walks.{marks_of, written_of, Ties, all_tie}
 use Rattle.prepare.specs.declared.Answer.TheVariants.{Accepted, Refused}
 use Rattle.loader.specs.Internal.{Run, ran, on_answer, run_from}
 
 module _ (stored : List ℕ) where
   -- What a pass gave, where going over the records gives that.
   abbrev pub Runs : walk.Walk → Run → Type 0
-  Runs (walk.Walked sites) r = r ≡ ran (Accepted (length sites)) (marksOf stored sites) (written_of stored sites)
+  Runs (walk.Walked sites) r = r ≡ ran (Accepted (length sites)) (marks_of stored sites) (written_of stored sites)
   Runs (walk.Stopped why number) r = r.answer ≡ Refused why number
 
   -- The pass from a record on, behind the sites of the earlier ones.
-  abbrev runs-behind : List Action → ℕ → List Site → Run
-  runs-behind actions number earlier = run_from stored actions number (length earlier) (marksOf stored earlier) (written_of stored earlier)
+  abbrev runs_behind : List Action → ℕ → List Site → Run
+  runs_behind actions number earlier = run_from stored actions number (length earlier) (marks_of stored earlier) (written_of stored earlier)
 
   abbrev Later : List Action → ℕ → Type 0
-  Later rest number = (sites : List Site) → Good stored sites → Runs (walk_from stored rest number sites) (runs-behind rest number sites)
+  Later rest number = (sites : List Site) → Good stored sites → Runs (walk_from stored rest number sites) (runs_behind rest number sites)
 
   applied : (f : Fixup) (rest : List Action) (number : ℕ) (earlier : List Site) → Good stored earlier → Later rest (suc number) → (w : walk.Followed) → followed stored f earlier ≡ w → (p : Pass) → Ties stored w p → Runs (on_followed w (λ why. walk.Stopped why number) (λ sites. walk_from stored rest (suc number) sites)) (on_answer p.answer number p.marks p.bytes (λ more. run_from stored rest (suc number) more p.marks p.bytes))
   applied f rest number earlier g later (walk.Ended sites) e p t = rw t (later sites (follow_accepted stored f (65536 - length earlier) f.site earlier sites g e).good)
@@ -39,7 +39,7 @@ module _ (stored : List ℕ) where
   runs_from [] number earlier g = refl
   runs_from (Skip ∷ rest) number earlier g = runs_from rest (suc number) earlier g
   runs_from (Refuse why ∷ rest) number earlier g = refl
-  runs_from (Apply f ∷ rest) number earlier g = applied f rest number earlier g (runs_from rest (suc number)) (followed stored f earlier) refl (pass_of stored f (length earlier) (marksOf stored earlier) (written_of stored earlier)) (all_tie stored f earlier g)
+  runs_from (Apply f ∷ rest) number earlier g = applied f rest number earlier g (runs_from rest (suc number)) (followed stored f earlier) refl (pass_of stored f (length earlier) (marks_of stored earlier) (written_of stored earlier)) (all_tie stored f earlier g)
 
-  pub runs : (actions : List Action) → Runs (walk_of stored actions) (runs-behind actions 1 [])
+  pub runs : (actions : List Action) → Runs (walk_of stored actions) (runs_behind actions 1 [])
   runs actions = runs_from actions 1 [] (tt, tt)

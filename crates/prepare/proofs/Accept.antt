@@ -29,8 +29,8 @@ use Rattle.prepare.proofs.Ready.{walked, is_walked, was_ready}
 
 -- What the sites' theory calls resolved, in the records' own words, and the other way.
 module _ (q : Request) (h : Header) (s : Segment) where
-  unfoldable pub from-sites : site.Sound (stored_of q s) (actions_of q h s) → Sound q h s
-  from-sites sound =
+  unfoldable pub from_sites : site.Sound (stored_of q s) (actions_of q h s) → Sound q h s
+  from_sites sound =
       record {
         types = all_each KnownType s.records (record_in q s) (λ i k. (known i k).0);
         targets = all_each (Resolves q.image h) s.records (record_in q s) (λ i k. (known i k).1);
@@ -43,8 +43,8 @@ module _ (q : Request) (h : Header) (s : Segment) where
       known : (i : ℕ) → i < s.records → KnownType (record_in q s i) × Resolves q.image h (record_in q s i)
       known i k = fixup.known q.image h q.selectors (import_answer q i) (record_in q s i) (each_all site.Resolved s.records (action_in q h s) sound.resolved i k)
 
-  unfoldable pub to-sites : h.segments.count ≤ length q.selectors → Sound q h s → site.Sound (stored_of q s) (actions_of q h s)
-  to-sites enough sound =
+  unfoldable pub to_sites : h.segments.count ≤ length q.selectors → Sound q h s → site.Sound (stored_of q s) (actions_of q h s)
+  to_sites enough sound =
       record {
         resolved = all_each site.Resolved s.records (action_in q h s) good;
         sites = sound.sites;
@@ -70,17 +70,17 @@ module _ (q : Request) (h : Header) (s : Segment) (ready : Ready q h s) where
 
   -- What an accepted segment is made from.
   pub made : (sites : ℕ) (bytes marks : List ℕ) → walked q h s ≡ Prepared sites bytes marks → (sound : Sound q h s) × (Prepared sites bytes marks ≡ outcome_of q s (Walked sound.sites))
-  unfolding from-sites
+  unfolding from_sites
   made sites bytes marks e = go (walked_of q h s) refl e
     where
       go : (w : Walk) → walked_of q h s ≡ w → outcome_of q s w ≡ Prepared sites bytes marks → (sound : Sound q h s) × (Prepared sites bytes marks ≡ outcome_of q s (Walked sound.sites))
       go (Walked found) p z =
           let a = accepted_sound (stored_of q s) (actions_of q h s) found p in
-          (from-sites q h s a.0, rw (← a.1) (sym z))
+          (from_sites q h s a.0, rw (← a.1) (sym z))
       go (Stopped why number) p z = never cc
 
   pub accepts : Bytes q.image → Accepts q ↔ Sound q h s
-  unfolding to-sites
+  unfolding to_sites
   accepts bytes = (there, back)
     where
       outcome_some : (sites : List Site) → (count : ℕ) × (bytes : List ℕ) × (marks : List ℕ) × (outcome_of q s (Walked sites) ≡ Prepared count bytes marks)
@@ -91,7 +91,7 @@ module _ (q : Request) (h : Header) (s : Segment) (ready : Ready q h s) where
 
       back : Sound q h s → Accepts q
       back sound =
-          let walk = sound_accepted (stored_of q s) (actions_of q h s) (to-sites q h s ready.selectors sound) (stored_small bytes) in
+          let walk = sound_accepted (stored_of q s) (actions_of q h s) (to_sites q h s ready.selectors sound) (stored_small bytes) in
           let some = outcome_some sound.sites in
           (some.0, some.1, some.2, is_walked q h s ready ∙ rw walk some.3)
 

@@ -29,7 +29,7 @@ use Rattle.prepare.specs.Prepare.{Request, Prepared, stored_of, list_of, action_
 use Rattle.prepare.specs.Sound.{Ready, Sound}
 use Rattle.prepare.specs.Step.{Given, step_of, visited_of, given_in, given_of, steps_of, EveryOrder}
 use Rattle.prepare.proofs.Ready.{is_walked}
-use Rattle.prepare.proofs.Accept.{stored_fits, to-sites, made}
+use Rattle.prepare.proofs.Accept.{stored_fits, to_sites, made}
 
 module _ (q : Request) (h : Header) where
   -- What a record asks for that a step is given.
@@ -58,7 +58,7 @@ module _ (q : Request) (h : Header) where
 -- Start from the stored bytes and zeros up to the allocation, carry out all records, each once, each with its own answer, each
 -- on the buffer that the last one left: in every order of the whole list the buffer at the end is the output of preparing.
 pub every_order : (q : Request) (h : Header) (s : Segment) → Ready q h s → {count : ℕ} {bytes marks : List ℕ} → prepare_of q ≡ Prepared count bytes marks → EveryOrder q s bytes
-unfolding to-sites
+unfolding to_sites
 every_order q h s ready {count} {bytes} {marks} e records p =
     let m = made q h s ready count bytes marks (sym (is_walked q h s ready) ∙ e) in
     go m.0 m.1
@@ -68,15 +68,15 @@ every_order q h s ready {count} {bytes} {marks} e records p =
         let b : prepared (stored_of q s) s.allocation sound.sites ≡ bytes = cc in
         let permuted : Perm (actions_of q h s) (map (action q h) records) = rw (← (actions_are q h s)) (mathlib.Core.List.Perm.map (action q h) p) in
         steps_are q h ready.found.numbered.header records (unfixed (stored_of q s) s.allocation)
-        ∙ site-order.every_order (stored_of q s) s.allocation (stored_fits q h s ready) (actions_of q h s) (to-sites q h s ready.selectors sound) (map (action q h) records) permuted
+        ∙ site-order.every_order (stored_of q s) s.allocation (stored_fits q h s ready) (actions_of q h s) (to_sites q h s ready.selectors sound) (map (action q h) records) permuted
         ∙ b
 
 -- The sites of all records as the steps find them are the sites as stored.
 pub stored_sites : (q : Request) (h : Header) (s : Segment) → Ready q h s → (sound : Sound q h s) → gathered (λ g. visited_of q.image q.selectors g (unfixed (stored_of q s) s.allocation)) (given_of q s) ≡ sound.sites
-unfolding to-sites
+unfolding to_sites
 stored_sites q h s ready sound =
     visits_are q h ready.found.numbered.header (unfixed (stored_of q s) s.allocation) (given_of q s)
-    ∙ rw (actions_are q h s) (site-order.stored_sites (stored_of q s) s.allocation (stored_fits q h s ready) (actions_of q h s) (to-sites q h s ready.selectors sound))
+    ∙ rw (actions_are q h s) (site-order.stored_sites (stored_of q s) s.allocation (stored_fits q h s ready) (actions_of q h s) (to_sites q h s ready.selectors sound))
 
 module _ (image selectors : List ℕ) (g : Given) (buffer : List ℕ) where
   pub own_sites : (place : ℕ) → All (λ x. IsWritten buffer place x → ⊥) (visited_of image selectors g buffer) → byte_at (step_of image selectors g buffer) place ≡ byte_at buffer place

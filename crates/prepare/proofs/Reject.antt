@@ -34,7 +34,7 @@ use Rattle.prepare.specs.Prepare.{Request, Refused, stored_of, record_in, action
 use Rattle.prepare.specs.Sound.{Ready, Sound}
 use Rattle.prepare.specs.Rejected.{Short, selectors_short, answers_short, output_short, marks_short, Early, by_header, by_number, by_entries, by_segment, by_size, first_records, BadRecord, Beside, nothing, its_number, Rejected}
 use Rattle.prepare.proofs.Ready.{walked, IsEarly, IsWalked, came}
-use Rattle.prepare.proofs.Accept.{stored_small, from-sites, to-sites}
+use Rattle.prepare.proofs.Accept.{stored_small, from_sites, to_sites}
 
 -- The numbers of the refusals before the records, and at them.
 short_number : {q : Request} {h : Header} {s : Segment} {why : Refusal} → Short q h s why → Between 21 21 why
@@ -64,15 +64,15 @@ record_number q h s index why b = go b.because
 module _ (q : Request) (bytes : Bytes q.image) (h : Header) (s : Segment) (ready : Ready q h s) (why : Refusal) (number : ℕ) where
   module _ (st : StopsAt (stored_of q s) s.records (action_in q h s) 1 [] why number) where
     before : (sound : Sound q h (first_records st.index s)) × (st.sites ≡ sound.sites)
-    unfolding from-sites
+    unfolding from_sites
     before =
         let a = accepted_sound (stored_of q s) (each st.index (action_in q h s)) st.sites st.before in
-        (from-sites q h (first_records st.index s) a.0, a.1)
+        (from_sites q h (first_records st.index s) a.0, a.1)
 
     with_it : Sound q h (first_records (suc st.index) s) → ⊥
-    unfolding to-sites
+    unfolding to_sites
     with_it sound =
-        let walk = sound_accepted (stored_of q s) (each (suc st.index) (action_in q h s)) (to-sites q h (first_records (suc st.index) s) ready.selectors sound) (stored_small q h s ready bytes) in
+        let walk = sound_accepted (stored_of q s) (each (suc st.index) (action_in q h s)) (to_sites q h (first_records (suc st.index) s) ready.selectors sound) (stored_small q h s ready bytes) in
         let z = sym walk ∙ st.there in
         never cc
 

@@ -23,15 +23,15 @@ use Rattle.prepare.proofs.Ready.{sized}
 
 module _ (q : Request) (selectors answers : List ℕ) (R : Outcome → Outcome → Type 0) (same : (o : Outcome) → R o o) (of_segment : (h : Header) (s : Segment) → header_of q.image ≡ headers.Accepted h → record_of q.image h (q.number - 1) ≡ segments.Accepted s → R (sized q h s) (sized (with_lists q selectors answers) h s)) where
   -- What follows of a header, once the number is known good.
-  abbrev from-table : Request → Header → EntryTable → segment.Answer → Outcome
-  from-table r h t a = on_table t refuse (λ bundles. on_segment a refuse (sized r h))
+  abbrev from_table : Request → Header → EntryTable → segment.Answer → Outcome
+  from_table r h t a = on_table t refuse (λ bundles. on_segment a refuse (sized r h))
 
-  of_table : (h : Header) → header_of q.image ≡ headers.Accepted h → (t : EntryTable) (a : segment.Answer) → record_of q.image h (q.number - 1) ≡ a → R (from-table q h t a) (from-table (with_lists q selectors answers) h t a)
+  of_table : (h : Header) → header_of q.image ≡ headers.Accepted h → (t : EntryTable) (a : segment.Answer) → record_of q.image h (q.number - 1) ≡ a → R (from_table q h t a) (from_table (with_lists q selectors answers) h t a)
   of_table h good (tables.Unsound why) a e = same (refuse why)
   of_table h good (tables.Sound bundles) (segments.Accepted s) e = of_segment h s good e
   of_table h good (tables.Sound bundles) (segments.Refused why) e = same (refuse why)
 
-  of_number : (h : Header) → header_of q.image ≡ headers.Accepted h → (lacking : Bool) (a : segment.Answer) → record_of q.image h (q.number - 1) ≡ a → R (decide refuse ((lacking ⇒ NoSuchNumber) ∷ []) (from-table q h (entries_of q h) a)) (decide refuse ((lacking ⇒ NoSuchNumber) ∷ []) (from-table (with_lists q selectors answers) h (entries_of q h) a))
+  of_number : (h : Header) → header_of q.image ≡ headers.Accepted h → (lacking : Bool) (a : segment.Answer) → record_of q.image h (q.number - 1) ≡ a → R (decide refuse ((lacking ⇒ NoSuchNumber) ∷ []) (from_table q h (entries_of q h) a)) (decide refuse ((lacking ⇒ NoSuchNumber) ∷ []) (from_table (with_lists q selectors answers) h (entries_of q h) a))
   of_number h good true a e = same (refuse NoSuchNumber)
   of_number h good false a e = of_table h good (entries_of q h) a e
 

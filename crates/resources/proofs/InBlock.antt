@@ -97,10 +97,10 @@ module _ (image : List ℕ) (b : Block) where
   words_id kind id p q h = same_tests Found (has_kind_and_id kind id) (has_id id) Nothing (block_resources image b) (all_map (λ (r : Resource). r.kind ≡ b.kind) (λ (r : Resource). has_kind_and_id kind id r ≡ has_id id r) (λ r e. rw (p, q, eq-eqb r.kind kind (e ∙ h))) (block_resources image b) (kinds b.count 0))
 
   -- What is found among so many resources from an index on.
-  abbrev pub idFrom : ℕ → ℕ → ℕ → Match
-  idFrom id left index = first_of (has_id id) Found Nothing (resources_from left image b index)
+  abbrev pub id_from : ℕ → ℕ → ℕ → Match
+  id_from id left index = first_of (has_id id) Found Nothing (resources_from left image b index)
 
-  pub one_more : (id left index : ℕ) → 0 < left → idFrom id left index ≡ cond (has_id id (resource_at image b index)) (Found (resource_at image b index)) (idFrom id (left - 1) (suc index))
+  pub one_more : (id left index : ℕ) → 0 < left → id_from id left index ≡ cond (has_id id (resource_at image b index)) (Found (resource_at image b index)) (id_from id (left - 1) (suc index))
   unfolding first_of resources_from
   one_more id zero index h = absurd (omega arith)
   one_more id (suc left) index h = let rest : suc left - 1 ≡ left = omega arith in rw rest

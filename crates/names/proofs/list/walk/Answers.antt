@@ -35,10 +35,10 @@ module _ (image : List ℕ) (first : ℕ) (asked : Request) (name : List ℕ) wh
   in_more : (used : ℕ) (m : Match) (n : Name) (t : Table Name Refusal) → in_all image first asked name used m (after (n ∷ []) t) ≡ in_all image first asked name (used + 1) (chosen m (wanted image first asked name n) n) t
   in_more used m n (Sound ns) =
       let count : used + suc (length ns) ≡ used + 1 + length ns = omega arith in
-      same-progress count (later m n ns)
+      same_progress count (later m n ns)
     where
-      same-progress : {k l : ℕ} {f g : Match} → k ≡ l → f ≡ g → walked.Sound (record { used = k; found = f }) ≡ walked.Sound (record { used = l; found = g })
-      same-progress p q = rw (p, q)
+      same_progress : {k l : ℕ} {f g : Match} → k ≡ l → f ≡ g → walked.Sound (record { used = k; found = f }) ≡ walked.Sound (record { used = l; found = g })
+      same_progress p q = rw (p, q)
   in_more used m n (Unsound why) = refl
 
   -- Nothing comes behind what was found.

@@ -8,13 +8,13 @@ use borrow.Author.Tests.{ne_eqb}
 use lib.Dec.{eqb}
 use Rattle.resources.specs.declared.Match.TheVariants.{Found}
 use Rattle.resources.specs.Resource.{resource_at}
-use Rattle.resources.proofs.InBlock.{idFrom, one_more}
+use Rattle.resources.proofs.InBlock.{id_from, one_more}
 use Rattle.resources.proofs.block.of_id.Goals as goal
 
 pub loop-index-preserved : goal.loop-index-preserved
 unfolding resource_at
 loop-index-preserved c =
-    let here : idFrom c.args.image.now c.args.b c.args.id c.args.b.count 0 ≡ cond (eqb c.word.result c.args.id) (Found (resource_at c.args.image.now c.args.b c.loop-index.index)) (idFrom c.args.image.now c.args.b c.args.id (c.args.b.count - suc c.loop-index.index) (suc c.loop-index.index)) =
+    let here : id_from c.args.image.now c.args.b c.args.id c.args.b.count 0 ≡ cond (eqb c.word.result c.args.id) (Found (resource_at c.args.image.now c.args.b c.loop-index.index)) (id_from c.args.image.now c.args.b c.args.id (c.args.b.count - suc c.loop-index.index) (suc c.loop-index.index)) =
     let a = c.args in
     let l = c.loop-index in
     let some : 0 < a.b.count - l.index = omega arith in
