@@ -12,7 +12,7 @@ git mv crates/target crates/aimed
 sed -i -E 's/\btarget\b/aimed/g' crates.txt
 grep -rlE 'Rattle·target\b|\btarget::' crates | xargs sed -i -E 's/Rattle·target\b/Rattle·aimed/g; s/\btarget::/aimed::/g'
 git -c user.name=port -c user.email=port@localhost commit --quiet --all --message 'another name'
-python3 /opt/rattle/port/port.py
+python3 "$(dirname "$(rt doc)")/port/port.py"
 grep -rlE 'Rattle\.aimed\b|\baimed::' crates | xargs sed -i -E 's/Rattle\.aimed\b/Rattle.target/g; s/\baimed::/target::/g'
 ! grep -rnw aimed crates
 mv crates/aimed crates/target
