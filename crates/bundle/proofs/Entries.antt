@@ -2,6 +2,7 @@
 --     entry_sound     each of them is sound
 --     entry_segment   a sound entry's segment is in the segment table
 -- Assumes nothing.
+use Rattle.std.specs.Prelude.{Ok}
 use mathlib.Core.Path.{◌≡◌, refl}
 use mathlib.Core.Bool.{Bool, true, false, not, ◌||◌}
 use mathlib.Core.List.{List}
@@ -16,7 +17,6 @@ use Rattle.header.specs.Header.{lacks}
 use Rattle.bundle.specs.declared.Kind.{Kind}
 use Rattle.bundle.specs.declared.Kind.TheVariants.{Null, Movable, Fixed}
 use Rattle.bundle.specs.declared.Entry.{Entry}
-use Rattle.bundle.specs.declared.Answer.TheVariants.{Accepted}
 use Rattle.bundle.specs.Bundle.{width_of, entry_of, entry_unsound, unsound_from}
 
 -- An entry of a bundle without unsound entries.
@@ -33,7 +33,7 @@ entry_sound (suc count) index segments table kind at e h = go (entry_unsound seg
         rw on (rest i q (omega arith))
 
 -- The segment of an entry that isn't unsound is in the table.
-pub entry_segment : (segments : ℕ) (kind : Kind) (bytes : List ℕ) (e : Entry) → entry_unsound segments kind bytes ≡ false → entry_of kind bytes ≡ Accepted e → lacks segments e.segment ≡ false
+pub entry_segment : (segments : ℕ) (kind : Kind) (bytes : List ℕ) (e : Entry) → entry_unsound segments kind bytes ≡ false → entry_of kind bytes ≡ Ok e → lacks segments e.segment ≡ false
 entry_segment segments Null bytes e sound is = never cc
 entry_segment segments Movable bytes e sound is = go (not (eqb (word_at bytes 1) 0x3fcd)) sound
   where

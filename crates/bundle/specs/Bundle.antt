@@ -1,5 +1,5 @@
 -- Document 01, "Entry table": one bundle, its entries and its checks.
-use Rattle.std.specs.Prelude.{ℕ, zero, suc, ◌+◌, ◌*◌, Bool, false, cond, not, ◌||◌, List, [], ◌∷◌, length, drop, ltb, eqb}
+use Rattle.std.specs.Prelude.{ℕ, zero, suc, ◌+◌, ◌*◌, Bool, false, cond, not, ◌||◌, List, [], ◌∷◌, length, drop, ltb, eqb, Result, Ok, Err, Option, Some, None}
 use Rattle.le.specs.Number.{byte_at, word_at}
 use Rattle.refusal.specs.declared.Refusal.{Refusal}
 use Rattle.refusal.specs.declared.Refusal.TheVariants.{EntryTableEnds, EntryUnsound, OrdinalsOver, NoSuchOrdinal}
@@ -8,10 +8,7 @@ use Rattle.header.specs.Header.{lacks}
 use Rattle.bundle.specs.declared.Kind.{Kind}
 use Rattle.bundle.specs.declared.Kind.TheVariants.{Null, Movable, Fixed}
 use Rattle.bundle.specs.declared.Bundle.{Bundle}
-use Rattle.bundle.specs.declared.Step as step
-use Rattle.bundle.specs.declared.Step.TheVariants as steps
-use Rattle.bundle.specs.declared.Answer.{Answer}
-use Rattle.bundle.specs.declared.Answer.TheVariants.{Accepted, Refused}
+use Rattle.bundle.specs.declared.Entry.{Entry}
 
 -- "Segment byte 0 is null [...]. 255 is movable [...]. Any other byte is a fixed segment number".
 unfoldable pub kind_of : ℕ → Kind
@@ -25,10 +22,10 @@ width_of (Fixed segment) = 3
 
 -- "(flag, CDh 3Fh, segment, offset word)" and "(flag, offset word)": what the entry says that starts at the first byte of
 -- `e`. "15: ordinal not covered, or null".
-abbrev pub entry_of : Kind → List ℕ → Answer
-entry_of Null e = Refused NoSuchOrdinal
-entry_of Movable e = Accepted (record { segment = byte_at e 3; offset = word_at e 4; flag = byte_at e 0 })
-entry_of (Fixed segment) e = Accepted (record { segment = segment; offset = word_at e 1; flag = byte_at e 0 })
+abbrev pub entry_of : Kind → List ℕ → Result Entry Refusal
+entry_of Null e = Err NoSuchOrdinal
+entry_of Movable e = Ok (record { segment = byte_at e 3; offset = word_at e 4; flag = byte_at e 0 })
+entry_of (Fixed segment) e = Ok (record { segment = segment; offset = word_at e 1; flag = byte_at e 0 })
 
 -- "13: entry's segment not in the table, or no CDh 3Fh". CDh 3Fh is read as a word.
 abbrev pub entry_unsound : ℕ → Kind → List ℕ → Bool
@@ -60,10 +57,10 @@ bundle_checks table segments b =
 
 -- What stands at a place of the table: nothing any more (12), the end byte ("a count of 0 ends it"), or a bundle. "A table
 -- of size 0 is empty": it needs no end byte.
-unfoldable pub step_of : List ℕ → ℕ → ℕ → ℕ → step.Step
+unfoldable pub step_of : List ℕ → ℕ → ℕ → ℕ → Result (Option Bundle) Refusal
 step_of table segments at used =
     let b = bundle_at table at used in
-    cond (eqb (length table) 0) steps.End
-    (decide steps.Refused ((ltb (length table) (at + 1) ⇒ EntryTableEnds) ∷ [])
-    (cond (eqb (byte_at table at) 0) steps.End
-    (decide steps.Refused (bundle_checks table segments b) (steps.Next b))))
+    cond (eqb (length table) 0) (Ok None)
+    (decide Err ((ltb (length table) (at + 1) ⇒ EntryTableEnds) ∷ [])
+    (cond (eqb (byte_at table at) 0) (Ok None)
+    (decide Err (bundle_checks table segments b) (Ok (Some b)))))

@@ -35,14 +35,6 @@ pub struct Head {
     pub segment: u8,
 }
 
-// What stands at a place of the table: a bundle, the end byte, or why the table is unsound here.
-#[derive(Clone, Copy)]
-pub enum Step {
-    Next(Bundle),
-    End,
-    Refused(Refusal),
-}
-
 #[derive(Clone, Copy)]
 pub struct Entry {
     pub segment: u8,
@@ -50,16 +42,10 @@ pub struct Entry {
     pub flag: u8,
 }
 
-// What an ordinal answers.
-#[derive(Clone, Copy)]
-pub enum Answer {
-    Accepted(Entry),
-    Refused(Refusal),
-}
-
 // The bytes of an entry.
 pub fn width(kind: Kind) -> usize
-    ensures { (result ≡ width_of kind) × (result ≤ 6) }
+    ensures is { result ≡ width_of kind }
+    ensures low { result ≤ 6 }
 {
     match kind {
         Kind::Null => 0,
@@ -69,8 +55,10 @@ pub fn width(kind: Kind) -> usize
 }
 
 // The bytes of a bundle's entries, by arithmetic alone: in a table of mixed bundles a branch is guessed wrong each time.
+#[tactic(auto, using(crate::proofs::Sized::sized))]
 pub fn size_of(head: Head) -> usize
-    ensures { (result ≡ width_of (kind_of head.segment) * head.count) × (result ≤ 6 * head.count) }
+    ensures is { result ≡ width_of (kind_of head.segment) * head.count }
+    ensures low { result ≤ 6 * head.count }
 {
     let fixed = 3 * head.count as usize;
     let movable = (head.segment / 255) as usize;
@@ -79,18 +67,18 @@ pub fn size_of(head: Head) -> usize
 }
 
 // What the entry says that starts at the first byte of `e`.
-pub fn read_entry(kind: Kind, e: &[u8]) -> Answer
+pub fn read_entry(kind: Kind, e: &[u8]) -> Result<Entry, Refusal>
     ensures { result ≡ entry_of kind e.now }
 {
     match kind {
-        Kind::Null => Answer::Refused(Refusal::NoSuchOrdinal),
-        Kind::Movable => Answer::Accepted(Entry {
+        Kind::Null => Err(Refusal::NoSuchOrdinal),
+        Kind::Movable => Ok(Entry {
             segment: le::byte(e, 3),
             offset: le::word(e, 4),
             flag: le::byte(e, 0),
         }),
-        Kind::Fixed(segment) => Answer::Accepted(Entry {
-            segment: segment,
+        Kind::Fixed(segment) => Ok(Entry {
+            segment,
             offset: le::word(e, 1),
             flag: le::byte(e, 0),
         }),

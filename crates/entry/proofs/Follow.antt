@@ -16,6 +16,7 @@ use Rattle.entry.specs.declared.Slot.{Slot}
 use Rattle.tables.specs.Table.{Sound}
 use Rattle.entry.specs.Table.{table_of, covers, slot_of, no_slot, slot_in, ordinals_in}
 use Rattle.entry.specs.Covered.{Among}
+use Rattle.entry.specs.Internal.{last_in}
 use Rattle.entry.proofs.Covers.{covered}
 use Rattle.entry.proofs.Induction.{sound_table}
 
@@ -38,11 +39,6 @@ pub later : (used : ℕ) (b : Bundle) (bs : List Bundle) → Follow used bs → 
 later used b [] f m = absurd m
 later used b (first ∷ bs) f (inl e) = let same : first.used ≤ b.used = rw e (omega arith) in omega (arith, f.0, same)
 later used b (first ∷ bs) f (inr m) = let rest = later (used + first.count) b bs f.1 m in omega (arith, rest)
-
--- The slot in the last bundle that covers an ordinal, as a walk finds it, or else the slot `other`.
-unfoldable pub last_in : Slot → List Bundle → ℕ → Slot
-last_in other [] number = other
-last_in other (b ∷ bs) number = last_in (cond (covers b number) (slot_of b number) other) bs number
 
 -- An ordinal that came before a list isn't covered there.
 passed_by : (slot : Slot) (used number : ℕ) (bs : List Bundle) → Follow used bs → number ≤ used → last_in slot bs number ≡ slot

@@ -10,7 +10,7 @@ use Rattle.tables.specs.Table.{Place, Next, Sound}
 use Rattle.tables.proofs.Induction as tables
 use Rattle.bundle.specs.declared.Bundle.{Bundle}
 use Rattle.bundle.specs.Bundle.{step_of}
-use Rattle.bundle.proofs.Went.{Went}
+use Rattle.bundle.specs.Internal.{Went}
 use Rattle.entry.specs.Table.{bundle_step, table_of}
 use Rattle.entry.proofs.Turns.{goes_on}
 

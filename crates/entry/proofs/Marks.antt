@@ -5,6 +5,7 @@
 --     mark_covers    the bundle at the place covers it
 --     mark_goes_on   the next place stands behind that bundle
 -- Assumes nothing.
+use Rattle.std.specs.Prelude.{Result, Ok, Err, Option, Some, None}
 use mathlib.Core.Path.{◌≡◌, refl, ap, sym, ◌∙◌}
 use mathlib.Core.Logic.{◌⊎◌, inl, inr}
 use mathlib.Core.Bool.{cond}
@@ -15,11 +16,10 @@ use borrow.Author.Tests.{lt-ltb, le-ltb, le-leb, lt-leb}
 use Rattle.checks.proofs.Impossible.{never}
 use Rattle.bundle.specs.declared.Bundle.{Bundle}
 use Rattle.bundle.specs.declared.Head.{Head}
-use Rattle.bundle.specs.declared.Step as step
-use Rattle.bundle.specs.declared.Step.TheVariants as steps
+use Rattle.refusal.specs.declared.Refusal.{Refusal}
 use Rattle.bundle.specs.Bundle.{kind_of, width_of, step_of, bundle_at}
-use Rattle.bundle.specs.Internal.{head_of}
-use Rattle.bundle.proofs.Went.{Went, went, head_next, head_end}
+use Rattle.bundle.specs.Internal.{head_of, Went}
+use Rattle.bundle.proofs.Went.{went, head_next, head_end}
 use Rattle.tables.specs.Table.{Sound, Unsound, after}
 use Rattle.entry.specs.Table.{EntryTable, table_at, table_of, covers, slot_of, no_slot, slot_in}
 use Rattle.entry.specs.Internal.{Mark}
@@ -51,18 +51,18 @@ module _ (table : List ℕ) (segments : ℕ) (all : List Bundle) where
     front : Ends ⊎ Front
     front = go (step_of table segments at used) refl
       where
-        on : (b : Bundle) (t : EntryTable) → step_of table segments at used ≡ steps.Next b → table_at table segments b.end (b.used + b.count) ≡ t → after (b ∷ []) t ≡ Sound m.bundles → Front
+        on : (b : Bundle) (t : EntryTable) → step_of table segments at used ≡ Ok (Some b) → table_at table segments b.end (b.used + b.count) ≡ t → after (b ∷ []) t ≡ Sound m.bundles → Front
         on b (Unsound why) e q z = never cc
         on b (Sound bs) e q z =
             let head = head_next table segments at used b e in
             record { b = b; behind = bs; is = cc; count = rw here head.0; kind = rw here head.1; passed = went table segments at used b e; sound = q }
 
-        go : (s : step.Step) → step_of table segments at used ≡ s → Ends ⊎ Front
-        go (steps.Refused why) e = let z : Unsound why ≡ Sound m.bundles = sym (unrolled table segments at used _ e) ∙ m.sound in never cc
-        go steps.End e =
+        go : (s : Result (Option Bundle) Refusal) → step_of table segments at used ≡ s → Ends ⊎ Front
+        go (Err why) e = let z : Unsound why ≡ Sound m.bundles = sym (unrolled table segments at used _ e) ∙ m.sound in never cc
+        go (Ok None) e =
             let z : Sound [] ≡ Sound m.bundles = sym (unrolled table segments at used _ e) ∙ m.sound in
             inl (rw here (head_end table segments at used e), cc)
-        go (steps.Next b) e = inr (on b (table_at table segments b.end (b.used + b.count)) e refl (sym (unrolled table segments at used _ e) ∙ m.sound))
+        go (Ok (Some b)) e = inr (on b (table_at table segments b.end (b.used + b.count)) e refl (sym (unrolled table segments at used _ e) ∙ m.sound))
 
     pub mark_ends : h.count ≡ 0 → (number : ℕ) → used < number → slot_in all number ≡ no_slot
     unfolding slot_in

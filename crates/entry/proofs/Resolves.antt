@@ -1,6 +1,7 @@
 -- The claim of an ordinal: it resolves exactly when the table is sound and a bundle that isn't null covers it, and the
 -- answer is that bundle's entry.
 -- Assumes nothing.
+use Rattle.std.specs.Prelude.{Ok, Err}
 use mathlib.Core.Path.{◌≡◌, refl, ap, sym, ◌∙◌}
 use mathlib.Core.Logic.{◌⊎◌, inl, inr, ◌↔◌}
 use mathlib.Core.Bool.{Bool, true, false, cond}
@@ -14,13 +15,11 @@ use Rattle.refusal.specs.declared.Refusal.{Refusal}
 use Rattle.refusal.specs.declared.Refusal.TheVariants.{NoSuchOrdinal}
 use Rattle.header.specs.Header.{header_of}
 use Rattle.header.specs.declared.Header.{Header}
-use Rattle.header.specs.declared.Answer.TheVariants as header-answer
 use Rattle.bundle.specs.declared.Kind.{Kind}
 use Rattle.bundle.specs.declared.Kind.TheVariants.{Null, Movable, Fixed}
 use Rattle.bundle.specs.declared.Bundle.{Bundle}
 use Rattle.entry.specs.declared.Slot.{Slot}
 use Rattle.bundle.specs.declared.Entry.{Entry}
-use Rattle.bundle.specs.declared.Answer.TheVariants as answers
 use Rattle.bundle.specs.Bundle.{entry_of}
 use Rattle.tables.specs.Table.{Sound, Unsound}
 use Rattle.entry.specs.Table.{EntryTable, table_of, covers, slot_of, slot_in, no_slot}
@@ -71,12 +70,12 @@ slot_cases number (b ∷ bs) = go (covers b number) refl (slot_cases number bs)
     go false e (inl q) = inl (rw e q)
     go false e (inr w) = inr (record { bundle = w.bundle; among = inr w.among; above = w.above; within = w.within; is = rw e w.is })
 
-module _ (image : List ℕ) (h : Header) (number : ℕ) (good : header_of image ≡ header-answer.Accepted h) where
+module _ (image : List ℕ) (h : Header) (number : ℕ) (good : header_of image ≡ Ok h) where
   answer_is : (bs : List Bundle) → table_of (table_bytes image h) h.segments.count ≡ Sound bs → ordinal_of image number ≡ entry_of (slot_in bs number).kind (drop (slot_in bs number).at (table_bytes image h))
   unfolding ordinal_of ordinal_in
   answer_is bs sound = rw (good, sound)
 
-  refused_is : (why : Refusal) → table_of (table_bytes image h) h.segments.count ≡ Unsound why → ordinal_of image number ≡ answers.Refused why
+  refused_is : (why : Refusal) → table_of (table_bytes image h) h.segments.count ≡ Unsound why → ordinal_of image number ≡ Err why
   unfolding ordinal_of ordinal_in
   refused_is why unsound = rw (good, unsound)
 
@@ -86,19 +85,19 @@ module _ (image : List ℕ) (h : Header) (number : ℕ) (good : header_of image 
       let follow = sound_follow (table_bytes image h) h.segments.count c.bundles c.sound in
       answer_is c.bundles c.sound ∙ entry_in (table_bytes image h) c.bundles b number follow c.among c.covers.0 c.covers.1
 
-  entry_there : (kind : Kind) (e : List ℕ) → (kind ≡ Null → ⊥) → (r : Entry) × (entry_of kind e ≡ answers.Accepted r)
+  entry_there : (kind : Kind) (e : List ℕ) → (kind ≡ Null → ⊥) → (r : Entry) × (entry_of kind e ≡ Ok r)
   entry_there Null e n = absurd (n refl)
   entry_there Movable e n = (_, refl)
   entry_there (Fixed segment) e n = (_, refl)
 
-  covering : (bs : List Bundle) (e : Entry) → table_of (table_bytes image h) h.segments.count ≡ Sound bs → ordinal_of image number ≡ answers.Accepted e → IsCovered image h number
+  covering : (bs : List Bundle) (e : Entry) → table_of (table_bytes image h) h.segments.count ≡ Sound bs → ordinal_of image number ≡ Ok e → IsCovered image h number
   covering bs e sound accepted = go (slot_cases number bs)
     where
-      found : entry_of (slot_in bs number).kind (drop (slot_in bs number).at (table_bytes image h)) ≡ answers.Accepted e
+      found : entry_of (slot_in bs number).kind (drop (slot_in bs number).at (table_bytes image h)) ≡ Ok e
       found = sym (answer_is bs sound) ∙ accepted
 
       null : (slot_in bs number).kind ≡ Null → ⊥
-      null q = let z : answers.Refused NoSuchOrdinal ≡ answers.Accepted e = rw q at found in never cc
+      null q = let z : Err NoSuchOrdinal ≡ Ok e = rw q at found in never cc
 
       go : (slot_in bs number ≡ no_slot) ⊎ There number bs (slot_in bs number) → IsCovered image h number
       go (inl none) = absurd (null (ap (λ (s : Slot). s.kind) none))
@@ -110,9 +109,9 @@ module _ (image : List ℕ) (h : Header) (number : ℕ) (good : header_of image 
   pub exactly : Resolves image number ↔ IsCovered image h number
   exactly = (λ r. go r.0 r.1 (table_of (table_bytes image h) h.segments.count) refl, back)
     where
-      go : (e : Entry) → ordinal_of image number ≡ answers.Accepted e → (t : EntryTable) → table_of (table_bytes image h) h.segments.count ≡ t → IsCovered image h number
+      go : (e : Entry) → ordinal_of image number ≡ Ok e → (t : EntryTable) → table_of (table_bytes image h) h.segments.count ≡ t → IsCovered image h number
       go e accepted (Sound bs) q = covering bs e q accepted
-      go e accepted (Unsound why) q = let z : answers.Refused why ≡ answers.Accepted e = sym (refused_is why q) ∙ accepted in never cc
+      go e accepted (Unsound why) q = let z : Err why ≡ Ok e = sym (refused_is why q) ∙ accepted in never cc
 
       back : IsCovered image h number → Resolves image number
       back c =

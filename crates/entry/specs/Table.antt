@@ -1,14 +1,12 @@
 -- Document 01, "Entry table": the whole table as a list of bundles.
-use Rattle.std.specs.Prelude.{ℕ, ◌+◌, ◌*◌, ◌-◌, Bool, cond, ◌&&◌, List, [], ◌∷◌, length, ltb, leb}
+use Rattle.std.specs.Prelude.{ℕ, ◌+◌, ◌*◌, ◌-◌, Bool, true, false, cond, ◌&&◌, List, [], ◌∷◌, length, ltb, leb, Result, Ok, Err, Option, Some, None}
 use Rattle.tables.specs.Table as tables
-use Rattle.tables.specs.Table.{Place, Step, Next, End, Stop, Table}
+use Rattle.tables.specs.Table.{Place, Step, Next, End, Stop, Table, Sound, Unsound}
 use Rattle.refusal.specs.declared.Refusal.{Refusal}
 use Rattle.refusal.specs.declared.Refusal.TheVariants.{EntryTableEnds}
 use Rattle.bundle.specs.declared.Kind.TheVariants.{Null}
 use Rattle.bundle.specs.declared.Bundle.{Bundle}
 use Rattle.entry.specs.declared.Slot.{Slot}
-use Rattle.bundle.specs.declared.Step as step
-use Rattle.bundle.specs.declared.Step.TheVariants as steps
 use Rattle.bundle.specs.Bundle.{width_of, step_of}
 
 -- The place behind a bundle.
@@ -16,10 +14,10 @@ abbrev pub behind : Bundle → Place
 behind b = record { at = b.end; used = b.used + b.count }
 
 -- What stands at a place, as a step of the table.
-abbrev pub as_step : step.Step → Step Bundle Refusal
-as_step (steps.Refused why) = Stop why
-as_step steps.End = End
-as_step (steps.Next b) = Next (b ∷ []) (behind b)
+abbrev pub as_step : Result (Option Bundle) Refusal → Step Bundle Refusal
+as_step (Err why) = Stop why
+as_step (Ok None) = End
+as_step (Ok (Some b)) = Next (b ∷ []) (behind b)
 
 abbrev pub bundle_step : List ℕ → ℕ → Place → Step Bundle Refusal
 bundle_step table segments p = as_step (step_of table segments p.at p.used)
@@ -27,6 +25,11 @@ bundle_step table segments p = as_step (step_of table segments p.at p.used)
 -- A table is sound, and then it is its bundles in their order, or it is refused.
 abbrev pub EntryTable : Type 0
 EntryTable = Table Bundle Refusal
+
+-- Whether a table is sound.
+abbrev pub is_sound : EntryTable → Bool
+is_sound (Sound bs) = true
+is_sound (Unsound why) = false
 
 -- The table from a place on, where `used` ordinals come before it, in a module of this many segments.
 abbrev pub table_at : List ℕ → ℕ → ℕ → ℕ → EntryTable

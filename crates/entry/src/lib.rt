@@ -11,10 +11,10 @@ mod whole;
 ghost use Rattle.std.specs.Prelude.{◌≡◌};
 ghost use Rattle.entry.specs.Ordinal.{table_bytes, ordinal_of, ordinal_in};
 
-use bundle::{Answer, Kind};
-use header::Header;
+use bundle::{Entry, Kind};
+use header::Module;
 pub use heads::find;
-pub use index::fill;
+pub use index::{Place, START, fill};
 use refusal::Refusal;
 pub use whole::walk;
 
@@ -32,47 +32,30 @@ pub struct Found {
     pub slot: Slot,
 }
 
-#[derive(Clone, Copy)]
-pub enum Walked {
-    Sound(Found),
-    Unsound(Refusal),
-}
-
 // What an ordinal stands for.
 #[tactic(auto, unfolding(crate::specs::Ordinal::ordinal_of))]
-pub fn by_ordinal(image: &[u8], number: u32) -> Answer
+pub fn by_ordinal(image: &[u8], number: u32) -> Result<Entry, Refusal>
     ensures { result ≡ ordinal_of image.now number }
 {
-    let headers = header::read(image);
-    match headers {
-        header::Answer::Refused(why) => Answer::Refused(why),
-        header::Answer::Accepted(h) => in_table(image, h, number),
-    }
+    let header = header::read(image)?;
+    let m = Module { image, header };
+    in_table(&m, number)
 }
 
 // The same once the header is known: refusals 12 to 15.
 #[tactic(auto, unfolding(crate::specs::Ordinal::ordinal_in))]
-pub fn in_table(image: &[u8], h: Header, number: u32) -> Answer
-    ensures { result ≡ ordinal_in image.now h number }
+pub fn in_table(m: &Module, number: u32) -> Result<Entry, Refusal>
+    ensures { result ≡ ordinal_in m.now.image.now m.now.header number }
 {
-    let bytes = table(image, h);
-    let walked = walk(bytes, h.segments.count, number);
-    match walked {
-        Walked::Unsound(why) => Answer::Refused(why),
-        Walked::Sound(found) => {
-            let slot = found.slot;
-            let kind = slot.kind;
-            let at = slot.at;
-            bundle::read_entry(kind, le::slice::from(bytes, at))
-        }
-    }
+    let bytes = table(m);
+    let slot = walk(bytes, m.header.segments.count, number)?.slot;
+    bundle::read_entry(slot.kind, le::slice::from(bytes, slot.at))
 }
 
 // The bytes of the entry table.
-pub fn table(image: &[u8], h: Header) -> &[u8]
-    ensures { result.now ≡ table_bytes image.now h }
+pub fn table<'a>(m: &Module<'a>) -> &'a [u8]
+    ensures { result.now ≡ table_bytes m.now.image.now m.now.header }
 {
-    let at = h.entries.at as usize;
-    let size = h.entries.count as usize;
-    le::slice::first(le::slice::from(image, at), size)
+    let rest = le::slice::from(m.image, m.header.entries.at as usize);
+    le::slice::first(rest, m.header.entries.count as usize)
 }

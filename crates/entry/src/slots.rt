@@ -9,11 +9,7 @@ use bundle::Bundle;
 fn covers(b: Bundle, number: u32) -> bool
     ensures { result ≡ covers b number }
 {
-    if number <= b.used {
-        return false;
-    }
-    let last = b.used as usize + b.count as usize;
-    number as usize <= last
+    b.used < number && number as usize <= b.used as usize + b.count as usize
 }
 
 // The ordinal's slot in a bundle that covers it, or else the slot `other`.
@@ -22,11 +18,10 @@ pub fn choose(other: Slot, b: Bundle, number: u32) -> Slot
     ensures { result ≡ cond (covers b number) (slot_of b number) other }
 {
     if covers(b, number) {
-        let kind = b.kind;
         let index = (number - 1 - b.used) as usize;
         return Slot {
-            kind: kind,
-            at: b.at + bundle::width(kind) * index,
+            kind: b.kind,
+            at: b.at + bundle::width(b.kind) * index,
         };
     }
     other

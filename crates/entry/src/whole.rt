@@ -3,12 +3,13 @@ ghost use Rattle.std.specs.Prelude.{◌≡◌};
 ghost use Rattle.entry.specs.Table.{table_of};
 ghost use Rattle.entry.specs.Internal.{walk_of};
 
-use crate::{Found, Slot, Walked, slots};
-use bundle::{Kind, Step};
+use crate::{Found, Slot, slots};
+use bundle::Kind;
+use refusal::Refusal;
 
 // Walks a table to its end byte, for a module of this many segments, and finds the slot of one ordinal on the way.
-#[tactic(auto, unfolding(crate::specs::Table::ordinals_in, crate::proofs::Follow::last_in))]
-pub fn walk(table: &[u8], segments: u32, number: u32) -> Walked
+#[tactic(auto, using(bundle::proofs::Went::went, crate::proofs::Walks::walk_starts, crate::proofs::Walks::walk_refused, crate::proofs::Walks::walk_ends, crate::proofs::Walks::walk_goes_on))]
+pub fn walk(table: &[u8], segments: u32, number: u32) -> Result<Found, Refusal>
     ensures { result ≡ walk_of (table_of table.now segments) number }
 {
     let mut at = 0;
@@ -17,23 +18,13 @@ pub fn walk(table: &[u8], segments: u32, number: u32) -> Walked
         kind: Kind::Null,
         at: 0,
     };
-    loop {
-        let step = bundle::next(table, segments, at, used);
-        match step {
-            Step::Refused(why) => {
-                return Walked::Unsound(why);
-            }
-            Step::End => {
-                return Walked::Sound(Found {
-                    ordinals: used,
-                    slot: slot,
-                });
-            }
-            Step::Next(b) => {
-                slot = slots::choose(slot, b, number);
-                at = b.end;
-                used = b.used + b.count;
-            }
-        }
+    while let Some(b) = bundle::next(table, segments, at, used)? {
+        slot = slots::choose(slot, b, number);
+        at = b.end;
+        used = b.used + b.count;
     }
+    Ok(Found {
+        ordinals: used,
+        slot,
+    })
 }

@@ -4,6 +4,7 @@
 --     known           a record that is not refused is of a known type, and its target resolves
 --     refused_number  22 or 23
 -- Assumes nothing.
+use Rattle.std.specs.Prelude.{Result, Ok, Err, Option, Some, None}
 use mathlib.Core.Path.{◌≡◌, refl}
 use mathlib.Core.Logic.{inl, inr}
 use mathlib.Core.Bool.{Bool, true, false}
@@ -14,20 +15,19 @@ use borrow.Author.Tests.{le-ltb, eqb-true}
 use lib.Dec.{eqb}
 use lib.ListN.{length}
 use Rattle.checks.proofs.Impossible.{never}
+use Rattle.checks.specs.Onward.{◌>>=◌}
 use Rattle.refusal.specs.declared.Refusal.{Refusal}
 use Rattle.refusal.specs.declared.Refusal.TheVariants.{FixupType}
 use Rattle.header.specs.Header.{lacks}
 use Rattle.header.specs.declared.Header.{Header}
 use Rattle.header.proofs.Numbered.{has}
-use Rattle.site.specs.declared.Action.TheVariants.{Refuse}
 use Rattle.site.specs.declared.Kind.{Kind}
 use Rattle.site.specs.declared.Kind.TheVariants.{LowByte, Selector, Far, Offset}
+use Rattle.site.specs.declared.Fixup.{Fixup}
 use Rattle.site.specs.Sound.{Resolved}
 use Rattle.fixup.specs.declared.Record.{Record}
-use Rattle.fixup.specs.declared.Typed.{Typed}
-use Rattle.fixup.specs.declared.Typed.TheVariants.{Known, Unknown}
 use Rattle.fixup.specs.declared.Target.{Target}
-use Rattle.fixup.specs.declared.Target.TheVariants.{Segment, Unresolved}
+use Rattle.fixup.specs.declared.Target.TheVariants.{Segment}
 use Rattle.fixup.specs.Record.{typed_of}
 use Rattle.fixup.specs.Target.{target_of}
 use Rattle.refusal.specs.Number.{Between}
@@ -36,14 +36,14 @@ use Rattle.fixup.specs.Resolves.{Resolves}
 use Rattle.fixup.proofs.Targets.{TargetReason, target_cases, resolves_not, resolves}
 
 -- A type is found exactly where it is one of the four.
-type_found : (r : Record) → KnownType r → typed_of r.kind ≡ Unknown → ⊥
+type_found : (r : Record) → KnownType r → typed_of r.kind ≡ None → ⊥
 unfolding typed_of
-type_found r (inl k) e = let z : Known LowByte ≡ Unknown = rw k at e in never cc
-type_found r (inr (inl k)) e = let z : Known Selector ≡ Unknown = rw k at e in never cc
-type_found r (inr (inr (inl k))) e = let z : Known Far ≡ Unknown = rw k at e in never cc
-type_found r (inr (inr (inr k))) e = let z : Known Offset ≡ Unknown = rw k at e in never cc
+type_found r (inl k) e = let z : Some LowByte ≡ None = rw k at e in never cc
+type_found r (inr (inl k)) e = let z : Some Selector ≡ None = rw k at e in never cc
+type_found r (inr (inr (inl k))) e = let z : Some Far ≡ None = rw k at e in never cc
+type_found r (inr (inr (inr k))) e = let z : Some Offset ≡ None = rw k at e in never cc
 
-found_type : (r : Record) → (typed_of r.kind ≡ Unknown → ⊥) → KnownType r
+found_type : (r : Record) → (typed_of r.kind ≡ None → ⊥) → KnownType r
 unfolding typed_of
 found_type r found = go (eqb r.kind 0) (eqb r.kind 2) (eqb r.kind 3) (eqb r.kind 5) refl refl refl refl
   where
@@ -54,36 +54,36 @@ found_type r found = go (eqb r.kind 0) (eqb r.kind 2) (eqb r.kind 3) (eqb r.kind
     go false false false true a b c d = inr (inr (inr (eqb-true _ _ d)))
     go false false false false a b c d = absurd (found (rw (a, b, c, d)))
 
-same_reason : {why why' : Refusal} → Refuse why ≡ Refuse why' → why ≡ why'
+same_reason : {A : Type 0} {why why' : Refusal} → ◌≡◌ {A = Result A Refusal} (Err why) (Err why') → why ≡ why'
 same_reason e = cc
 
 module _ (image : List ℕ) (h : Header) (selectors : List ℕ) (answer : ℕ) (r : Record) where
-  pub refused_as : h.segments.count ≤ length selectors → (why : Refusal) → action_of image h selectors answer r ≡ Refuse why → RefusedAs image h r why
+  pub refused_as : h.segments.count ≤ length selectors → (why : Refusal) → action_of image h selectors answer r ≡ Err why → RefusedAs image h r why
   unfolding action_of
   refused_as enough why e = go (typed_of r.kind) refl e
     where
       -- What is asked of a target, for each kind of it.
-      Told : Kind → Target → Type 0
-      Told kind t = ((other : Refusal) → t ≡ Unresolved other → Resolves image h r → ⊥) → to_target selectors answer r kind t ≡ Refuse why → RefusedAs image h r why
+      Told : Kind → Result Target Refusal → Type 0
+      Told kind t = ((other : Refusal) → t ≡ Err other → Resolves image h r → ⊥) → (t >>= to_target selectors answer r kind) ≡ Err why → RefusedAs image h r why
 
-      in_segment : (kind : Kind) (segment offset : ℕ) → lacks h.segments.count segment ≡ false → Told kind (Segment segment offset)
+      in_segment : (kind : Kind) (segment offset : ℕ) → lacks h.segments.count segment ≡ false → Told kind (Ok (Segment segment offset))
       in_segment kind segment offset lacked k z =
           let there = has h.segments.count segment lacked in
           let listed : segment ≤ length selectors = omega (arith, there.1) in
           let w = rw (le-ltb _ _ listed) at z in
           never cc
 
-      known_type : (kind : Kind) → typed_of r.kind ≡ Known kind → KnownType r
+      known_type : (kind : Kind) → typed_of r.kind ≡ Some kind → KnownType r
       known_type kind p = found_type r (λ q. never cc)
 
-      go : (typed : Typed) → typed_of r.kind ≡ typed → of_type selectors answer r typed (target_of image h r) ≡ Refuse why → RefusedAs image h r why
-      go Unknown p z =
-          let told : Refuse FixupType ≡ Refuse why = z in
+      go : (typed : Option Kind) → typed_of r.kind ≡ typed → of_type selectors answer r typed (target_of image h r) ≡ Err why → RefusedAs image h r why
+      go None p z =
+          let told : ◌≡◌ {A = Result (Option Fixup) Refusal} (Err FixupType) (Err why) = z in
           let same : FixupType ≡ why = same_reason told in
           rw (← same) (type_unknown (λ k. type_found r k p))
-      go (Known kind) p z = target_cases image h r (Told kind) (in_segment kind) (λ k z. never cc) (λ k z. never cc) because (λ other k t. resolves_not image h r other t.0 t.1 k) z
+      go (Some kind) p z = target_cases image h r (Told kind) (in_segment kind) (λ k z. never cc) (λ k z. never cc) because (λ other k t. resolves_not image h r other t.0 t.1 k) z
         where
-          because : (other : Refusal) → TargetReason other → Told kind (Unresolved other)
+          because : (other : Refusal) → TargetReason other → Told kind (Err other)
           because other reason k z =
               let same : other ≡ why = same_reason z in
               rw (← same) (target_unresolved (known_type kind p) (k other refl) reason)
@@ -99,12 +99,12 @@ module _ (image : List ℕ) (h : Header) (selectors : List ℕ) (answer : ℕ) (
   unfolding action_of
   known ok = (found_type r go_typed, resolves image h r (λ why e. go (typed_of r.kind) why refl e))
     where
-      go_typed : typed_of r.kind ≡ Unknown → ⊥
+      go_typed : typed_of r.kind ≡ None → ⊥
       go_typed e = ok FixupType (rw e)
 
-      go : (typed : Typed) (why : Refusal) → typed_of r.kind ≡ typed → target_of image h r ≡ Unresolved why → ⊥
-      go Unknown why p q = go_typed p
-      go (Known kind) why p q = ok why (rw (p, q))
+      go : (typed : Option Kind) (why : Refusal) → typed_of r.kind ≡ typed → target_of image h r ≡ Err why → ⊥
+      go None why p q = go_typed p
+      go (Some kind) why p q = ok why (rw (p, q))
 
 -- A record is refused by 22 or 23.
 pub refused_number : {image : List ℕ} {h : Header} {r : Record} {why : Refusal} → RefusedAs image h r why → Between 22 23 why

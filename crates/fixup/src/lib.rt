@@ -1,9 +1,6 @@
 // A fixup record: its fields, and its target (22, 23). The types and their theory; `target` has the code.
 #![tactic(auto)]
 
-use refusal::Refusal;
-use site::Kind;
-
 // The fields of a record. Of the type and the flag only the bits that count are kept.
 #[derive(Clone, Copy)]
 pub struct Record {
@@ -14,19 +11,10 @@ pub struct Record {
     pub last: u16,
 }
 
-// What a record's type stands for.
-#[derive(Clone, Copy)]
-pub enum Typed {
-    Known(Kind),
-    Unknown,
-}
-
-// What a record's target words name: an offset in a segment of the module, an import, nothing (an OS fixup), or nothing that
-// is there. A type of the meaning alone: the code goes from the words to the action.
+// What a record's target words name: an offset in a segment of the module, an import, or nothing (an OS fixup).
 #[derive(Clone, Copy)]
 pub enum Target {
     Segment(u8, u16),
     Import,
     Os,
-    Unresolved(Refusal),
 }

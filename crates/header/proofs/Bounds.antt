@@ -1,5 +1,6 @@
 -- The law of an accepted header: everything lies where `Inside` says.
 -- Assumes nothing.
+use Rattle.std.specs.Prelude.{Result, Ok, Err}
 use mathlib.Core.Path.{◌≡◌, refl, ap}
 use mathlib.Core.Bool.{Bool, true, false}
 use mathlib.Core.List.{List}
@@ -13,12 +14,11 @@ use Rattle.checks.proofs.Checks.{passed, answered}
 use Rattle.header.specs.Header.{header_of, header_checks, tables_of, leaves, ne_place, field_of}
 use Rattle.header.specs.Inside.{Inside}
 use Rattle.header.specs.declared.Header.{Header}
-use Rattle.header.specs.declared.Answer.{Answer}
-use Rattle.header.specs.declared.Answer.TheVariants.{Accepted, Refused}
+use Rattle.refusal.specs.declared.Refusal.{Refusal}
 
-is_refusal : Answer → Bool
-is_refusal (Accepted h) = false
-is_refusal (Refused why) = true
+is_refusal : Result Header Refusal → Bool
+is_refusal (Ok h) = false
+is_refusal (Err why) = true
 
 stays : (len at size : ℕ) → leaves len at size ≡ false → 0 < size → at + size ≤ len
 unfolding leaves
@@ -32,11 +32,11 @@ module _ (image : List ℕ) where
 
   all_passed : is_refusal (header_of image) ≡ false → Passed (header_checks image)
   unfolding header_of is_refusal
-  all_passed e = passed Refused is_refusal (λ why. refl) (header_checks image) _ e
+  all_passed e = passed Err is_refusal (λ why. refl) (header_checks image) _ e
 
-  is_tables : is_refusal (header_of image) ≡ false → header_of image ≡ Accepted tables
+  is_tables : is_refusal (header_of image) ≡ false → header_of image ≡ Ok tables
   unfolding header_of is_refusal tables
-  is_tables e = answered Refused is_refusal (λ why. refl) (header_checks image) _ e
+  is_tables e = answered Err is_refusal (λ why. refl) (header_checks image) _ e
 
   -- The checks by their places in the list, from 0.
   inside : Passed (header_checks image) → Inside image tables
@@ -55,7 +55,7 @@ module _ (image : List ℕ) where
         nonresident = λ h. stays len _ _ t.1.1.1.0 h;
       }
 
-pub accepted : (image : List ℕ) (h : Header) → header_of image ≡ Accepted h → Inside image h
+pub accepted : (image : List ℕ) (h : Header) → header_of image ≡ Ok h → Inside image h
 unfolding is_refusal
 accepted image h e =
     let good : is_refusal (header_of image) ≡ false = ap is_refusal e in

@@ -1,4 +1,3 @@
 pub mod Bounds
 pub mod Numbered
-pub mod Onward
 pub mod Why

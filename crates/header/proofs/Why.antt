@@ -1,5 +1,6 @@
 -- A header is refused by 1 to 7.
 -- Assumes nothing.
+use Rattle.std.specs.Prelude.{Err}
 use mathlib.Core.Path.{◌≡◌}
 use mathlib.Core.List.{List}
 use Prim.Native.Nat.{ℕ}
@@ -9,8 +10,7 @@ use Rattle.checks.proofs.Impossible.{never}
 use Rattle.refusal.specs.Number.{Between}
 use Rattle.refusal.specs.declared.Refusal.{Refusal}
 use Rattle.header.specs.Header.{header_of, header_checks}
-use Rattle.header.specs.declared.Answer.TheVariants.{Refused}
 
-pub refused : (image : List ℕ) (why : Refusal) → header_of image ≡ Refused why → Between 1 7 why
+pub refused : (image : List ℕ) (why : Refusal) → header_of image ≡ Err why → Between 1 7 why
 unfolding header_of header_checks
-refused image why e = because Refused (λ w w' z. cc) (Between 1 7) (header_checks image) _ (omega arith) why (λ z. never cc) e
+refused image why e = because Err (λ w w' z. cc) (Between 1 7) (header_checks image) _ (omega arith) why (λ z. never cc) e

@@ -1,12 +1,10 @@
 -- Document 01, "Header rules": the MZ header and the NE header.
-use Rattle.std.specs.Prelude.{ℕ, ◌+◌, ◌*◌, ◌^◌, Bool, false, cond, not, ◌||◌, List, [], ◌∷◌, length, ltb, eqb}
+use Rattle.std.specs.Prelude.{ℕ, ◌+◌, ◌*◌, ◌^◌, Bool, false, cond, not, ◌||◌, List, [], ◌∷◌, length, ltb, eqb, Result, Ok, Err}
 use Rattle.le.specs.Number.{word_at, dword_at}
 use Rattle.refusal.specs.declared.Refusal.{Refusal}
 use Rattle.refusal.specs.declared.Refusal.TheVariants.{ImageShort, ImageLong, NoMz, NePlace, NoNe, Shift, SegmentTable, ModuleTable, EntryTable, NonresidentTable}
 use Rattle.checks.specs.Checks.{Check, ◌⇒◌, decide}
 use Rattle.header.specs.declared.Header.{Header}
-use Rattle.header.specs.declared.Answer.{Answer}
-use Rattle.header.specs.declared.Answer.TheVariants.{Accepted, Refused}
 
 -- "The dword at 3Ch places the NE header".
 abbrev pub ne_place : List ℕ → ℕ
@@ -69,14 +67,9 @@ header_checks image =
     ∷ ne_checks image ne
 
 -- What the header of an image answers: the first refusal, or where everything stands.
-unfoldable pub header_of : List ℕ → Answer
-header_of image = decide Refused (header_checks image) (Accepted (tables_of image (ne_place image)))
+unfoldable pub header_of : List ℕ → Result Header Refusal
+header_of image = decide Err (header_checks image) (Ok (tables_of image (ne_place image)))
 
 -- "number 0 or above the count": whether a table of `count` elements lacks the one of a number.
 unfoldable pub lacks : ℕ → ℕ → Bool
 lacks count number = eqb number 0 || ltb count number
-
--- For whoever goes on from a header: its refusal, or what follows of it.
-abbrev pub on_header : {A : Type 0} → Answer → (Refusal → A) → (Header → A) → A
-on_header (Accepted h) refuse go = go h
-on_header (Refused why) refuse go = refuse why

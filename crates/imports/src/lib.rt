@@ -4,7 +4,7 @@
 ghost use Rattle.std.specs.Prelude.{◌≡◌};
 ghost use Rattle.imports.specs.Module.{string_at, reference_of, module_of};
 
-use header::Header;
+use header::Module;
 use refusal::Refusal;
 
 // A text: the place of its first byte, counted from the file's start, and its length.
@@ -14,65 +14,43 @@ pub struct Text {
     pub len: u8,
 }
 
-// A string in the imported names. What an unsound one means is for its reader to say.
-#[derive(Clone, Copy)]
-pub enum Imported {
-    Sound(Text),
-    Unsound,
-}
-
-// What a module reference answers.
-#[derive(Clone, Copy)]
-pub enum Answer {
-    Accepted(Text),
-    Refused(Refusal),
-}
-
 // The name of the module of a number.
 #[tactic(auto, unfolding(crate::specs::Module::module_of))]
-pub fn by_number(image: &[u8], number: u32) -> Answer
+pub fn by_number(image: &[u8], number: u32) -> Result<Text, Refusal>
     ensures { result ≡ module_of image.now number }
 {
-    let headers = header::read(image);
-    match headers {
-        header::Answer::Refused(why) => Answer::Refused(why),
-        header::Answer::Accepted(h) => reference(image, h, number),
-    }
+    let header = header::read(image)?;
+    let m = Module { image, header };
+    reference(&m, number)
 }
 
-// The string at a place, counted from the imported names.
+// The string at a place, counted from the imported names, or none where it is unsound: what that means is for its
+// reader to say.
 #[tactic(auto, unfolding(crate::specs::Module::string_at))]
-pub fn string(image: &[u8], h: Header, place: u16) -> Imported
-    ensures { result ≡ string_at image.now h place }
+pub fn string(m: &Module, place: u16) -> Option<Text>
+    ensures { result ≡ string_at m.now.image.now m.now.header place }
 {
-    let at = h.imported as usize + place as usize;
-    let len = le::byte(image, at);
+    let at = m.header.imported as usize + place as usize;
+    let len = le::byte(m.image, at);
     if len == 0 {
-        return Imported::Unsound;
+        return None;
     }
     let first = at + 1;
-    if image.len() < first + len as usize {
-        return Imported::Unsound;
+    if m.image.len() < first + len as usize {
+        return None;
     }
-    Imported::Sound(Text {
-        at: first,
-        len: len,
-    })
+    Some(Text { at: first, len })
 }
 
 // The module of a number once the header is known.
-#[tactic(auto, unfolding(crate::specs::Module::reference_of))]
-fn reference(image: &[u8], h: Header, number: u32) -> Answer
-    ensures { result ≡ reference_of image.now h number }
+#[tactic(auto, using(header::proofs::Numbered::has), unfolding(crate::specs::Module::reference_of))]
+fn reference(m: &Module, number: u32) -> Result<Text, Refusal>
+    ensures { result ≡ reference_of m.now.image.now m.now.header number }
 {
-    if header::lacks(h.modules.count, number) {
-        return Answer::Refused(Refusal::NoSuchNumber);
+    if header::lacks(m.header.modules.count, number) {
+        return Err(Refusal::NoSuchNumber);
     }
     let index = (number - 1) as usize;
-    let place = le::word(image, h.modules.at as usize + 2 * index);
-    let found = string(image, h, place);
-    match found {
-        Imported::Unsound => Answer::Refused(Refusal::ImportedString),
-        Imported::Sound(text) => Answer::Accepted(text),
-    }
+    let place = le::word(m.image, m.header.modules.at as usize + 2 * index);
+    string(m, place).ok_or(Refusal::ImportedString)
 }

@@ -1,7 +1,6 @@
 -- The laws of little-endian numbers, once over the width.
 --     number_add    a number of a + b bytes is its low a bytes and, 256 ^ a times as high, the b bytes behind them
 --     joined        so it is read by reading the two and joining them
---     number_one    a number of one byte is that byte
 --     number_past   past the end every number is 0
 --     number_below  a number of so many bytes is below 256 to that power
 --     number_bytes  the bytes of a number that they can hold read as that number
@@ -21,10 +20,6 @@ number_add (suc a) b s at = simp (suc-add, number_add a b s (suc at), add-suc, m
 
 pub joined : (a b : ℕ) (s : List ℕ) (at : ℕ) {low high : ℕ} → low ≡ number a s at → high ≡ number b s (at + a) → low + 256 ^ a * high ≡ number (a + b) s at
 joined a b s at l h = rw (l, h, number_add a b s at)
-
-pub number_one : (s : List ℕ) (at : ℕ) → byte_at s at ≡ number 1 s at
-unfolding number
-number_one s at = omega arith
 
 pub number_past : (width : ℕ) (s : List ℕ) (at : ℕ) → length s ≤ at → number width s at ≡ 0
 unfolding number

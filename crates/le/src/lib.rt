@@ -14,29 +14,32 @@ ghost use Rattle.le.specs.Number.{byte_at, word_at, dword_at};
 pub fn byte(s: &[u8], at: usize) -> u8
     ensures { result ≡ byte_at s.now at }
 {
-    if at < s.len() { s[at] } else { 0 }
+    s.get(at).copied().unwrap_or(0)
 }
 
 // The 16-bit number at `at`.
+#[tactic(auto, using(crate::proofs::Number::number_past), unfolding(crate::specs::Number::number))]
 pub fn word(s: &[u8], at: usize) -> u16
     ensures { result ≡ word_at s.now at }
 {
     if s.len() <= at {
         return 0;
     }
-    let low = byte(s, at) as u16;
-    let high = byte(s, at + 1) as u16;
-    low + 256 * high
+    u16::from_le_bytes([byte(s, at), byte(s, at + 1)])
 }
 
 // The 32-bit number at `at`.
+#[tactic(auto, using(crate::proofs::Number::number_past), unfolding(crate::specs::Number::number))]
 pub fn dword(s: &[u8], at: usize) -> u32
     ensures { result ≡ dword_at s.now at }
 {
     if s.len() <= at {
         return 0;
     }
-    let low = word(s, at) as u32;
-    let high = word(s, at + 2) as u32;
-    low + 65536 * high
+    u32::from_le_bytes([
+        byte(s, at),
+        byte(s, at + 1),
+        byte(s, at + 2),
+        byte(s, at + 3),
+    ])
 }

@@ -1,19 +1,20 @@
 -- The law of a listing's length: none is longer than `most`.
 -- Assumes nothing.
+use Rattle.std.specs.Prelude.{Result, Ok, Err}
 use mathlib.Core.Path.{◌≡◌, refl, ◌∙◌}
 use mathlib.Core.Bool.{Bool, true, false, cond}
 use mathlib.Core.List.{List, [], ◌∷◌, ◌++◌}
-use Prim.Native.Nat.{ℕ, zero, suc, ◌+◌, ◌*◌, ◌-◌, ◌≤◌}
+use Prim.Native.Nat.{ℕ, zero, suc, ◌+◌, ◌*◌, ◌-◌, ◌^◌, ◌≤◌, ◌<◌}
 use native.Mathlib.Omega.{arith}
 use native.Mathlib.Nat.{mul-suc, le_trans}
 use lib.Dec.{ltb}
 use lib.ListN.{length, length-append, length-take, length-drop, drop}
 use borrow.Author.Tests.{ltb-false}
 use Rattle.refusal.specs.Number.{number_of}
-use Rattle.header.specs.Header.{header_of, on_header}
+use Rattle.header.specs.Header.{header_of}
+use Rattle.checks.specs.Onward.{on_result}
 use Rattle.header.specs.declared.Header.{Header}
-use Rattle.header.specs.declared.Answer as header
-use Rattle.header.specs.declared.Answer.TheVariants as header-answer
+use Rattle.refusal.specs.declared.Refusal.{Refusal}
 use Rattle.bundle.specs.declared.Kind.{Kind}
 use Rattle.bundle.specs.declared.Kind.TheVariants.{Null, Movable, Fixed}
 use Rattle.bundle.specs.declared.Bundle.{Bundle}
@@ -21,11 +22,12 @@ use Rattle.bundle.specs.declared.Entry.{Entry}
 use Rattle.bundle.specs.Bundle.{width_of, entry_of}
 use Rattle.tables.specs.Table.{Sound, Unsound}
 use Rattle.entry.specs.Table.{EntryTable, table_of, ordinals_in}
-use Rattle.entry.specs.Ordinal.{table_bytes}
-use Rattle.bundle.proofs.Went.{Went}
+use Rattle.entry.specs.Ordinal.{table_bytes, in_table}
+use Rattle.entry.proofs.Follow.{ordinals_few}
+use Rattle.bundle.specs.Internal.{Went}
 use Rattle.entry.proofs.Induction.{sound_table}
 use Rattle.listing.specs.Text.{ascii, digits_of, decimal_width, decimal_of, hex_of}
-use Rattle.listing.specs.Listing.{number_line, refused_of, line_of, answer_line, table_listing, entries_of, lines_of, listing_of, most}
+use Rattle.listing.specs.Listing.{number_line, refused_of, line_of, answer_line, table_listing, lines_from, entries_of, lines_of, listing_of, most}
 use Rattle.listing.specs.Internal.{slot_lines, bundle_lines, bundles_lines}
 use Rattle.listing.proofs.Digits.{digits_length}
 use Rattle.listing.proofs.ByBundle.{by_bundle}
@@ -108,11 +110,42 @@ entries_short image h =
     let whole = table_short table h.segments.count (table_of table h.segments.count) refl in
     omega (arith, part, whole)
 
+lines_from_short : (count number : ℕ) (answer : ℕ → Result Entry Refusal) → length (lines_from count number answer) ≤ 20 * count
+unfolding lines_from
+lines_from_short zero number answer = omega arith
+lines_from_short (suc count) number answer =
+    let rest = lines_from_short count (number + 1) answer in
+    let all = length-append (answer_line number (answer number)) (lines_from count (number + 1) answer) in
+    omega (arith, one (answer number), rest, all)
+  where
+    one : (a : Result Entry Refusal) → length (answer_line number a) ≤ 20
+    one (Ok e) = line_short number e
+    one (Err why) = omega arith
+
+table_fits : (table : List ℕ) (segments : ℕ) (t : EntryTable) → table_of table segments ≡ t → length (table_listing table t) < 2 ^ 64
+table_fits table segments (Unsound why) e = let h = number_line_short (ascii "refused ") (number_of why) in omega (arith, h)
+table_fits table segments (Sound bs) e =
+    let few = ordinals_few table segments bs e in
+    let count = number_line_short (ascii "ordinals ") (ordinals_in bs) in
+    let lines = lines_from_short (ordinals_in bs) 1 (in_table table (Sound bs)) in
+    let inner = length-append (lines_from (ordinals_in bs) 1 (in_table table (Sound bs))) (ascii "end\n") in
+    let all = length-append (number_line (ascii "ordinals ") (ordinals_in bs)) (lines_from (ordinals_in bs) 1 (in_table table (Sound bs)) ++ ascii "end\n") in
+    omega (arith, few, count, lines, inner, all)
+
+-- The length of a listing can be counted, whatever the size of the image.
+pub lines_fit : (image : List ℕ) → length (lines_of image) < 2 ^ 64
+unfolding lines_of entries_of
+lines_fit image = go (header_of image)
+  where
+    go : (a : Result Header Refusal) → length (on_result a refused_of λ h. entries_of image h) < 2 ^ 64
+    go (Err why) = let h = number_line_short (ascii "refused ") (number_of why) in omega (arith, h)
+    go (Ok h) = table_fits (table_bytes image h) h.segments.count (table_of (table_bytes image h) h.segments.count) refl
+
 pub listing_short : (image : List ℕ) → length (listing_of image) ≤ most
 unfolding lines_of listing_of
 listing_short image = go (ltb 65536 (length image)) refl (header_of image)
   where
-    go : (long : Bool) → ltb 65536 (length image) ≡ long → (a : header.Answer) → length (cond long (ascii "too long\n") (on_header a refused_of λ h. entries_of image h)) ≤ most
+    go : (long : Bool) → ltb 65536 (length image) ≡ long → (a : Result Header Refusal) → length (cond long (ascii "too long\n") (on_result a refused_of λ h. entries_of image h)) ≤ most
     go true q a = omega arith
-    go false q (header-answer.Refused why) = let h = number_line_short (ascii "refused ") (number_of why) in omega (arith, h)
-    go false q (header-answer.Accepted h) = omega (arith, entries_short image h, ltb-false 65536 (length image) q)
+    go false q (Err why) = let h = number_line_short (ascii "refused ") (number_of why) in omega (arith, h)
+    go false q (Ok h) = omega (arith, entries_short image h, ltb-false 65536 (length image) q)

@@ -1,5 +1,6 @@
 -- The lines of a sound table, bundle by bundle, are those of its ordinals, one after the other.
 -- Assumes nothing.
+use Rattle.std.specs.Prelude.{Result}
 use mathlib.Core.Path.{◌≡◌, refl, ap, sym, ◌∙◌}
 use mathlib.Core.Logic.{inl, inr}
 use mathlib.Core.List.{List, [], ◌∷◌, ◌++◌, append_assoc}
@@ -9,7 +10,8 @@ use native.Mathlib.Nat.{mul-suc, zero-add, suc-add}
 use native.Mathlib.Numerals.{add-one}
 use lib.ListN.{drop}
 use Rattle.bundle.specs.declared.Bundle.{Bundle}
-use Rattle.bundle.specs.declared.Answer.{Answer}
+use Rattle.bundle.specs.declared.Entry.{Entry}
+use Rattle.refusal.specs.declared.Refusal.{Refusal}
 use Rattle.bundle.specs.Bundle.{width_of, entry_of}
 use Rattle.tables.specs.Table.{Sound}
 use Rattle.entry.specs.Table.{table_of, ordinals_in}
@@ -20,7 +22,7 @@ use Rattle.entry.proofs.Resolves.{entry_in}
 use Rattle.listing.specs.Listing.{answer_line, lines_from}
 use Rattle.listing.specs.Internal.{slot_lines, bundle_lines, bundles_lines}
 
-lines_append : (m n number : ℕ) (answer : ℕ → Answer) → lines_from (m + n) number answer ≡ lines_from m number answer ++ lines_from n (number + m) answer
+lines_append : (m n number : ℕ) (answer : ℕ → Result Entry Refusal) → lines_from (m + n) number answer ≡ lines_from m number answer ++ lines_from n (number + m) answer
 unfolding lines_from
 lines_append zero n number answer = let same : number + 0 ≡ number = omega arith in rw (zero-add, same)
 lines_append (suc m) n number answer =
@@ -45,7 +47,7 @@ module _ (table : List ℕ) (all : List Bundle) (follow : Follow 0 all) where
       let place : b.at + width_of b.kind * (i + 1) ≡ b.at + width_of b.kind * i + width_of b.kind = rw (add-one, mul-suc) (omega arith) in
       let counted : i + 1 + left ≡ b.count = omega arith in
       let rest = in_bundle b m left (i + 1) counted in
-      ap (λ (a : Answer). answer_line number a ++ lines_from left (number + 1) (in_table table (Sound all))) here
+      ap (λ (a : Result Entry Refusal). answer_line number a ++ lines_from left (number + 1) (in_table table (Sound all))) here
       ∙ ap (answer_line number (entry_of b.kind (drop (b.at + width_of b.kind * i) table)) ++◌) (rw (next, place) at rest)
 
   in_order : (used : ℕ) (bs : List Bundle) → Follow used bs → ((b : Bundle) → Among b bs → Among b all) → lines_from (ordinals_in bs) (used + 1) (in_table table (Sound all)) ≡ bundles_lines table bs

@@ -1,17 +1,15 @@
 -- The laws of text that is written to a slice.
 --     nothing     no text
---     then        one text behind the other
---     start, more, done   text that is being written, in a loop
+--     then        one text after the other
 --     from_front  text from the front on is a copy
 -- Assumes nothing.
-use mathlib.Core.Path.{◌≡◌, refl, ap, sym, ◌∙◌}
-use mathlib.Core.List.{List, [], ◌∷◌, ◌++◌}
-use Prim.Native.Nat.{ℕ, suc, ◌+◌, min}
-use native.Mathlib.Omega.{arith}
-use lib.ListN.{length, set, length-append}
+use Rattle.std.proofs.Common.{◌≡◌, refl, ap, sym, ◌∙◌, List, [], ◌∷◌, ◌++◌, ℕ, suc, ◌+◌, ◌^◌, ◌<◌, arith, length, length-append}
+use Prim.Native.Nat.{min}
+use lib.ListN.{set}
 use lib.Seq.{sets}
 use Rattle.le.specs.Slice.{copied}
-use Rattle.listing.specs.Internal.{Wrote}
+use Rattle.listing.specs.Internal.{Writes}
+use Rattle.listing.specs.declared.text.Writer.{Writer}
 
 sets_append : (l : List ℕ) (at : ℕ) (a b : List ℕ) → sets l at (a ++ b) ≡ sets (sets l at a) (at + length a) b
 sets_append l at [] b = let same : at + 0 ≡ at = omega arith in rw same
@@ -19,37 +17,31 @@ sets_append l at (x ∷ a) b =
     let same : at + suc (length a) ≡ suc at + length a = omega arith in
     rw same (sets_append (set l at x) (suc at) a b)
 
-pub nothing : (l : List ℕ) (at : ℕ) → Wrote l at [] l at
-nothing l at = record { bytes = refl; place = omega arith }
+pub nothing : (w : Writer) → Writes w [] w
+nothing w = record { same = refl; bytes = λ fits. refl; len = λ fits. omega arith }
 
-pub then : {l m n : List ℕ} {at next end : ℕ} {a b : List ℕ} → Wrote l at a m next → Wrote m next b n end → Wrote l at (a ++ b) n end
-then {l} {m} {n} {at} {next} {end} {a} {b} first second =
-    let behind : end ≡ at + (length a + length b) = omega (arith, first.place, second.place) in
+pub then : {u v w : Writer} {a b : List ℕ} → Writes u a v → Writes v b w → Writes u (a ++ b) w
+then {u} {v} {w} {a} {b} first second =
+    let size = length-append a b in
+    let before : u.len + length (a ++ b) < 2 ^ 64 → u.len + length a < 2 ^ 64 = λ fits. omega (arith, size, fits) in
+    let after : u.len + length (a ++ b) < 2 ^ 64 → v.len + length b < 2 ^ 64 = λ fits. omega (arith, size, fits, first.len (before fits)) in
     record {
-      bytes = second.bytes ∙ rw (first.bytes, first.place) (sym (sets_append l at a b));
-      place = behind ∙ rw (length-append a b);
+      same = second.same ∙ first.same;
+      bytes = λ fits. second.bytes (after fits) ∙ rw (first.bytes (before fits), first.len (before fits)) (sym (sets_append u.out.now u.len a b));
+      len = λ fits. omega (arith, size, first.len (before fits), second.len (after fits));
     }
 
--- Text that is being written: what is left, written from here on, gives what the whole gives, written from the start.
-pub record Still (out : List ℕ) (next : ℕ) (rest first : List ℕ) (at : ℕ) (all : List ℕ) : Type 0 where
-  pub bytes : sets out next rest ≡ sets first at all
-  pub place : next + length rest ≡ at + length all
+-- Text that is being written: whatever writes the rest writes the whole.
+abbrev pub Still : Writer → List ℕ → Writer → List ℕ → Type 0
+Still now rest first all = (last : Writer) → Writes now rest last → Writes first all last
 
-pub start : (out : List ℕ) (at : ℕ) (all : List ℕ) → Still out at all out at all
-start out at all = record { bytes = refl; place = refl }
+pub more : {first now later : Writer} {text rest all : List ℕ} → Writes now text later → Still now (text ++ rest) first all → Still later rest first all
+more written still = λ last w. still last (then written w)
 
-pub more : {out later first : List ℕ} {next end at : ℕ} {text rest all : List ℕ} → Wrote out next text later end → Still out next (text ++ rest) first at all → Still later end rest first at all
-more {out} {later} {first} {next} {end} {at} {text} {rest} {all} w s =
-    let behind : next + (length text + length rest) ≡ at + length all = rw (sym (length-append text rest)) s.place in
-    record {
-      bytes = rw (w.bytes, w.place) (sym (sets_append out next text rest) ∙ s.bytes);
-      place = omega (arith, w.place, behind);
-    }
+pub done : {first now : Writer} {all : List ℕ} → Still now [] first all → Writes first all now
+done {first} {now} still = still now (nothing now)
 
-pub done : {out first : List ℕ} {next at : ℕ} {all : List ℕ} → Still out next [] first at all → Wrote first at all out next
-done s = record { bytes = s.bytes; place = omega (arith, s.place) }
-
--- Behind the first byte.
+-- After the first byte.
 sets_cons : (x : ℕ) (l : List ℕ) (at : ℕ) (text : List ℕ) → sets (x ∷ l) (suc at) text ≡ x ∷ sets l at text
 sets_cons x l at [] = refl
 sets_cons x l at (t ∷ text) = sets_cons x (set l at t) (suc at) text
@@ -71,5 +63,7 @@ front_copied (x ∷ l) [] =
     rw none
 front_copied (x ∷ l) (t ∷ text) = sets_cons t l 0 text ∙ rw (min_suc (length text) (length l)) (ap (t ∷◌) (front_copied l text))
 
-pub from_front : {out text after : List ℕ} {end : ℕ} → Wrote out 0 text after end → (after ≡ copied text out) × (end ≡ length text)
-from_front {out} {text} {after} {end} w = (w.bytes ∙ front_copied out text, omega (arith, w.place))
+pub from_front : {first last : Writer} {text : List ℕ} → Writes first text last → first.len ≡ 0 → length text < 2 ^ 64 → (last.out.now ≡ copied text first.out.now) × (last.len ≡ length text)
+from_front {first} {last} {text} w none short =
+    let fits : first.len + length text < 2 ^ 64 = omega (arith, none, short) in
+    (w.bytes fits ∙ rw none (front_copied first.out.now text), omega (arith, none, w.len fits))

@@ -1,7 +1,8 @@
 -- What serves proofs alone: text as it is written to a slice, and the lines of a table bundle by bundle. `proofs/ByBundle.antt` shows
 -- that these are the lines of the listing.
-use Rattle.std.specs.Prelude.{◌≡◌, Bool, true, false, List, [], ◌∷◌, ◌++◌, ℕ, zero, suc, ◌+◌, length, drop}
+use Rattle.std.specs.Prelude.{◌≡◌, List, [], ◌∷◌, ◌++◌, ℕ, zero, suc, ◌+◌, ◌^◌, ◌<◌, length, drop}
 use Rattle.std.proofs.lemmas.List.Edits.{sets}
+use Rattle.listing.specs.declared.text.Writer.{Writer}
 use Rattle.bundle.specs.declared.Kind.{Kind}
 use Rattle.bundle.specs.declared.Bundle.{Bundle}
 use Rattle.bundle.specs.Bundle.{width_of, entry_of}
@@ -9,15 +10,12 @@ use Rattle.tables.specs.Table.{Sound, Unsound}
 use Rattle.entry.specs.Table.{EntryTable}
 use Rattle.listing.specs.Listing.{answer_line}
 
--- That text was written to `before` from the place `at` on, as far as the slice goes, which is then `after`, and that `end`
--- is the place behind the text.
-pub record Wrote (before : List ℕ) (at : ℕ) (text after : List ℕ) (end : ℕ) : Type 0 where
-  pub bytes : after ≡ sets before at text
-  pub place : end ≡ at + length text
-
-abbrev pub is_sound : EntryTable → Bool
-is_sound (Sound bs) = true
-is_sound (Unsound why) = false
+-- That a writer that was `before` is `after` once a text was written to it: the text stands in the slice from the place
+-- `before.len` on, as far as the slice goes. Of a text whose end a `usize` can't count nothing is said.
+pub record Writes (before : Writer) (text : List ℕ) (after : Writer) : Type 0 where
+  pub same : after.out.ghost_name ≡ before.out.ghost_name
+  pub bytes : before.len + length text < 2 ^ 64 → after.out.now ≡ sets before.out.now before.len text
+  pub len : before.len + length text < 2 ^ 64 → after.len ≡ before.len + length text
 
 -- `count` ordinals from `number` on, whose entries stand one behind the other from the place `at` on.
 unfoldable pub slot_lines : ℕ → List ℕ → Kind → ℕ → ℕ → List ℕ

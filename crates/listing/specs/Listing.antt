@@ -1,12 +1,11 @@
 -- Document 01: the listing.
-use Rattle.std.specs.Prelude.{cond, List, [], ◌++◌, ℕ, zero, suc, ◌+◌, ltb, length}
+use Rattle.std.specs.Prelude.{cond, List, [], ◌++◌, ℕ, zero, suc, ◌+◌, ltb, length, Result, Ok, Err}
 use Rattle.refusal.specs.declared.Refusal.{Refusal}
 use Rattle.refusal.specs.Number.{number_of}
-use Rattle.header.specs.Header.{header_of, on_header}
+use Rattle.header.specs.Header.{header_of}
+use Rattle.checks.specs.Onward.{on_result}
 use Rattle.header.specs.declared.Header.{Header}
 use Rattle.bundle.specs.declared.Entry.{Entry}
-use Rattle.bundle.specs.declared.Answer.{Answer}
-use Rattle.bundle.specs.declared.Answer.TheVariants.{Accepted, Refused}
 use Rattle.tables.specs.Table.{Sound, Unsound}
 use Rattle.entry.specs.Table.{EntryTable, table_of, ordinals_in}
 use Rattle.entry.specs.Ordinal.{table_bytes, in_table}
@@ -33,12 +32,12 @@ line_of number e =
     ++ (hex_of 2 e.flag ++ ascii "\n")))
 
 -- An ordinal that stands for nothing has no line.
-abbrev pub answer_line : ℕ → Answer → List ℕ
-answer_line number (Accepted e) = line_of number e
-answer_line number (Refused why) = []
+abbrev pub answer_line : ℕ → Result Entry Refusal → List ℕ
+answer_line number (Ok e) = line_of number e
+answer_line number (Err why) = []
 
 -- The lines of `count` ordinals from `number` on.
-unfoldable pub lines_from : ℕ → ℕ → (ℕ → Answer) → List ℕ
+unfoldable pub lines_from : ℕ → ℕ → (ℕ → Result Entry Refusal) → List ℕ
 lines_from zero number answer = []
 lines_from (suc count) number answer = answer_line number (answer number) ++ lines_from count (number + 1) answer
 
@@ -55,7 +54,7 @@ entries_of image h =
 
 -- The lines of an image of any size.
 unfoldable pub lines_of : List ℕ → List ℕ
-lines_of image = on_header (header_of image) refused_of λ h. entries_of image h
+lines_of image = on_result (header_of image) refused_of λ h. entries_of image h
 
 -- "The listing program reads an image of at most 65,536 bytes (else the line `too long`)".
 unfoldable pub listing_of : List ℕ → List ℕ

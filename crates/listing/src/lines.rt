@@ -1,38 +1,34 @@
 // The lines of a listing.
-ghost use Rattle.std.specs.Prelude.{◌+◌, ◌^◌, ◌<◌, ◌≤◌, length};
-ghost use Rattle.listing.specs.Internal.{Wrote};
+ghost use Rattle.listing.specs.Internal.{Writes};
 ghost use Rattle.listing.specs.Listing.{number_line, answer_line, line_of};
 
-use crate::text;
-use bundle::{Answer, Entry};
+use crate::text::Writer;
+use bundle::Entry;
+use refusal::Refusal;
 
-// A word and a number, at the front of `out`.
-pub fn numbered(out: &mut [u8], word: &[u8], n: u32) -> usize
-    requires { length word.now < 2 ^ 36 }
-    ensures { Wrote out.old 0 (number_line word.now n) out.new result × (result ≤ length word.now + 6) }
+// A word and a number.
+pub fn numbered(text: &mut Writer<'_>, word: &[u8], n: u32)
+    ensures { Writes text.old (number_line word.now n) text.new }
 {
-    let next = text::ascii(out, 0, word);
-    text::decimal(out, next, n, b'\n')
+    text.ascii(word);
+    text.decimal(n, b'\n');
 }
 
 // The line of an ordinal that stands for an entry, and nothing for another.
-pub fn ordinal(out: &mut [u8], at: usize, number: u32, answer: Answer) -> usize
-    requires { at < 2 ^ 32 }
-    ensures { Wrote out.old at (answer_line number answer) out.new result × (result ≤ at + 20) }
+pub fn ordinal(text: &mut Writer<'_>, number: u32, answer: Result<Entry, Refusal>)
+    ensures { Writes text.old (answer_line number answer) text.new }
 {
-    match answer {
-        Answer::Refused(_) => at,
-        Answer::Accepted(e) => line(out, at, number, e),
+    if let Ok(e) = answer {
+        line(text, number, e);
     }
 }
 
 #[tactic(auto, unfolding(crate::specs::Listing::line_of))]
-fn line(out: &mut [u8], at: usize, number: u32, e: Entry) -> usize
-    requires { at < 2 ^ 32 }
-    ensures { Wrote out.old at (line_of number e) out.new result × (result ≤ at + 20) }
+fn line(text: &mut Writer<'_>, number: u32, e: Entry)
+    ensures { Writes text.old (line_of number e) text.new }
 {
-    let next = text::decimal(out, at, number, b' ');
-    let next = text::decimal(out, next, e.segment as u32, b':');
-    let next = text::number(out, next, 16, 4, e.offset as u32, b' ');
-    text::number(out, next, 16, 2, e.flag as u32, b'\n')
+    text.decimal(number, b' ');
+    text.decimal(e.segment as u32, b':');
+    text.hex(4, e.offset as u32, b' ');
+    text.hex(2, e.flag as u32, b'\n');
 }

@@ -1,80 +1,86 @@
-// Text written from a place of a slice on, as far as the slice goes. Each function answers the place behind its text.
-ghost use Rattle.std.specs.Prelude.{◌≡◌, [], ◌∷◌, ◌++◌, ◌+◌, ◌^◌, ◌<◌, ◌≤◌};
-ghost use Rattle.listing.specs.Text.{digit_of, digits_of, decimal_width, decimal_of};
-ghost use Rattle.listing.specs.Internal.{Wrote};
+// Text written to the front of a slice, as far as the slice goes.
+ghost use Rattle.std.specs.Prelude.{◌≡◌, [], ◌∷◌, ◌++◌, ◌<◌, ◌≤◌};
+ghost use Rattle.listing.specs.Text.{digit_of, digits_of, decimal_width, decimal_of, hex_of};
+ghost use Rattle.listing.specs.Internal.{Writes};
 
-// One byte.
-fn byte(out: &mut [u8], at: usize, b: u8) -> usize
-    requires { at + 1 < 2 ^ 64 }
-    ensures { Wrote out.old at (b ∷ []) out.new result × (result ≡ at + 1) }
-{
-    if at < out.len() {
-        out[at] = b;
-        return at + 1;
+// A slice that is written to from its front on.
+#[derive(Drop)]
+pub struct Writer<'a> {
+    pub out: &'a mut [u8],
+    // The length of the text so far, with what did not fit.
+    pub len: usize,
+}
+
+impl<'a> Writer<'a> {
+    // No text yet.
+    pub fn new(out: &'a mut [u8]) -> Writer<'a>
+        ensures out { result.out ≡ out.entry }
+        ensures len { result.len ≡ 0 }
+    {
+        Writer { out, len: 0 }
     }
-    at + 1
-}
 
-// All bytes of `s`.
-pub fn ascii(out: &mut [u8], at: usize, s: &[u8]) -> usize
-    requires { at < 2 ^ 40 }
-    ensures { Wrote out.old at s.now out.new result }
-{
-    let mut i = 0;
-    while i < s.len() {
-        byte(out, at + i, s[i]);
-        i += 1;
+    // One byte. The length saturates, so that a caller need not know that it fits.
+    fn byte(&mut self, b: u8)
+        ensures { Writes self.old (b ∷ []) self.new }
+    {
+        if self.len < self.out.len() {
+            self.out[self.len] = b;
+        }
+        self.len = self.len.saturating_add(1);
     }
-    at + i
-}
 
-// A number in decimal, and a byte behind it.
-pub fn decimal(out: &mut [u8], at: usize, n: u32, end: u8) -> usize
-    requires { at < 2 ^ 36 }
-    ensures { Wrote out.old at (decimal_of n ++ (end ∷ [])) out.new result × (result ≤ at + 6) }
-{
-    number(out, at, 10, decimal_width(n), n, end)
-}
+    // All bytes of `s`.
+    pub fn ascii(&mut self, s: &[u8])
+        ensures { Writes self.old s.now self.new }
+    {
+        for &b in s {
+            self.byte(b);
+        }
+    }
 
-// The last `width` digits of a number, and a byte behind them.
-pub fn number(out: &mut [u8], at: usize, base: u32, width: u32, n: u32, end: u8) -> usize
-    requires { (at < 2 ^ 36) × (0 < base) × (base ≤ 16) }
-    ensures { Wrote out.old at (digits_of base width n ++ (end ∷ [])) out.new result × (result ≡ at + width + 1) }
-{
-    let next = digits(out, at, base, width, n);
-    byte(out, next, end)
+    // A number in decimal, and a byte after it.
+    pub fn decimal(&mut self, n: u32, end: u8)
+        ensures { Writes self.old (decimal_of n ++ (end ∷ [])) self.new }
+    {
+        self.digits::<10>(decimal_width(n), n);
+        self.byte(end);
+    }
+
+    // The last `width` hexadecimal digits of a number, and a byte after them.
+    pub fn hex(&mut self, width: u32, n: u32, end: u8)
+        ensures { Writes self.old (hex_of width n ++ (end ∷ [])) self.new }
+    {
+        self.digits::<16>(width, n);
+        self.byte(end);
+    }
+
+    // The last `width` digits of a number in a base. The base is a constant, so that no division is left of it.
+    fn digits<const BASE: u32>(&mut self, width: u32, n: u32)
+        requires some { 0 < BASE }
+        requires small { BASE ≤ 16 }
+        ensures { Writes self.old (digits_of BASE width n) self.new }
+    {
+        if width == 0 {
+            return;
+        }
+        self.digits::<BASE>(width - 1, n / BASE);
+        self.byte(digit(n % BASE));
+    }
 }
 
 // How many digits a number has in decimal.
 #[tactic(auto, unfolding(crate::specs::Text::decimal_width))]
 fn decimal_width(n: u32) -> u32
-    ensures { (result ≡ decimal_width n) × (result ≤ 5) }
+    ensures { result ≡ decimal_width n }
 {
-    if n < 10 {
-        return 1;
+    match n {
+        0..=9 => 1,
+        10..=99 => 2,
+        100..=999 => 3,
+        1000..=9999 => 4,
+        _ => 5,
     }
-    if n < 100 {
-        return 2;
-    }
-    if n < 1000 {
-        return 3;
-    }
-    if n < 10000 {
-        return 4;
-    }
-    5
-}
-
-// The last `width` digits of a number.
-fn digits(out: &mut [u8], at: usize, base: u32, width: u32, n: u32) -> usize
-    requires { (at < 2 ^ 36) × (0 < base) × (base ≤ 16) }
-    ensures { Wrote out.old at (digits_of base width n) out.new result × (result ≡ at + width) }
-{
-    if width == 0 {
-        return at;
-    }
-    let next = digits(out, at, base, width - 1, n / base);
-    byte(out, next, digit(n % base))
 }
 
 // A digit up to 15.
@@ -84,7 +90,7 @@ fn digit(d: u32) -> u8
     ensures { result ≡ digit_of d }
 {
     if d < 10 {
-        return (48 + d) as u8;
+        return b'0' + d as u8;
     }
-    (55 + d) as u8
+    b'A' + (d - 10) as u8
 }

@@ -3,3 +3,4 @@ pub mod Walks
 pub mod Filled
 pub mod Left
 pub mod Passed
+pub mod Sound

@@ -2,188 +2,98 @@
 ghost use Rattle.std.specs.Prelude.{◌≡◌, ◌≤◌, length, take, drop};
 ghost use Rattle.entry.specs.Ordinal.{table_bytes};
 ghost use Rattle.entry.specs.Internal.{Indexes};
-ghost use Rattle.loader.specs.Internal.{Room, Leaves, outcome_in};
+ghost use Rattle.loader.specs.Internal.{Lent, Leaves, outcome_of_job, stored_of_job};
 
+use crate::job::Job;
 use crate::{fill, records};
-use header::Header;
-use prepare::Answer;
-use segment::Segment;
+use entry::{Place, START};
+use prepare::Rejection;
 
 // Segments up to this length take a small array: clearing a large one would cost more than all other work on them.
 const SMALL: u32 = 4096;
 
 // Prepares a segment: one without records is copied, another is made in an array first.
-pub fn segment(
-    image: &[u8],
-    h: Header,
-    s: Segment,
-    selectors: &[u16],
-    answers: &[u32],
-    output: &mut [u8],
-    marks: &mut [u8],
-) -> Answer
-    requires { Room image.now h s answers.now output.old marks.old }
-    ensures { Leaves (outcome_in image.now h s selectors.now answers.now marks.old) result output.old output.new marks.old marks.new }
+pub fn segment(job: &Job, output: &mut [u8], marks: &mut [u8]) -> Result<u32, Rejection>
+    requires { Lent job.now.segment output.old marks.old }
+    ensures { Leaves (outcome_of_job job.now marks.old) result output.old output.new marks.old marks.new }
 {
-    let start = s.start;
-    let end = start + s.stored as usize;
-    let stored = &image[start..end];
-    if s.records == 0 {
-        fill::output(stored, s.allocation as usize, output);
-        return Answer::Accepted(0);
+    if job.segment.records == 0 {
+        fill::output(stored(job), job.segment.allocation as usize, output);
+        return Ok(0);
     }
-    if s.stored <= SMALL {
-        return small(image, h, s, selectors, answers, stored, output, marks);
+    if job.segment.stored <= SMALL {
+        return in_array::<4096>(job, output, marks);
     }
-    large(image, h, s, selectors, answers, stored, output, marks)
+    in_array::<65536>(job, output, marks)
 }
 
-fn small(
-    image: &[u8],
-    h: Header,
-    s: Segment,
-    selectors: &[u16],
-    answers: &[u32],
-    stored: &[u8],
-    output: &mut [u8],
-    marks: &mut [u8],
-) -> Answer
-    requires { Room image.now h s answers.now output.old marks.old × (stored.now ≡ take s.stored (drop s.start image.now)) × (s.stored ≤ 4096) }
-    ensures { Leaves (outcome_in image.now h s selectors.now answers.now marks.old) result output.old output.new marks.old marks.new }
+// The stored bytes of a segment.
+fn stored<'a>(job: &Job<'a>) -> &'a [u8]
+    ensures { result.now ≡ stored_of_job job.now }
 {
-    let mut bytes = [0u8; 4096];
-    let size = s.stored as usize;
-    if records::few(h, s) {
-        let start = [0u32; 1];
-        return in_array(
-            image,
-            h,
-            s,
-            &start,
-            selectors,
-            answers,
-            stored,
-            &mut bytes[..size],
-            output,
-            marks,
-        );
-    }
-    indexed(
-        image,
-        h,
-        s,
-        selectors,
-        answers,
-        stored,
-        &mut bytes[..size],
-        output,
-        marks,
-    )
+    let start = job.segment.start;
+    &job.module.image[start..start + job.segment.stored as usize]
 }
 
-fn large(
-    image: &[u8],
-    h: Header,
-    s: Segment,
-    selectors: &[u16],
-    answers: &[u32],
-    stored: &[u8],
+// Applies the records in an array of `N` bytes, with an index of the entry table where it saves more than it costs.
+fn in_array<const N: usize>(
+    job: &Job,
     output: &mut [u8],
     marks: &mut [u8],
-) -> Answer
-    requires { Room image.now h s answers.now output.old marks.old × (stored.now ≡ take s.stored (drop s.start image.now)) }
-    ensures { Leaves (outcome_in image.now h s selectors.now answers.now marks.old) result output.old output.new marks.old marks.new }
+) -> Result<u32, Rejection>
+    requires lent { Lent job.now.segment output.old marks.old }
+    requires room { job.now.segment.stored ≤ N }
+    requires array { N ≤ 65536 }
+    ensures { Leaves (outcome_of_job job.now marks.old) result output.old output.new marks.old marks.new }
 {
-    let mut bytes = [0u8; 65536];
-    let size = s.stored as usize;
-    if records::few(h, s) {
-        let start = [0u32; 1];
-        return in_array(
-            image,
-            h,
-            s,
-            &start,
-            selectors,
-            answers,
-            stored,
-            &mut bytes[..size],
-            output,
-            marks,
-        );
+    let mut array = [0u8; N];
+    let bytes = &mut array[..job.segment.stored as usize];
+    if records::few(job) {
+        return in_bytes(job, &[START], bytes, output, marks);
     }
-    indexed(
-        image,
-        h,
-        s,
-        selectors,
-        answers,
-        stored,
-        &mut bytes[..size],
-        output,
-        marks,
-    )
+    indexed(job, bytes, output, marks)
 }
 
-// The same with an index of the entry table, so that no ordinal is far however many bundles there are.
+// Applies the records with an index of the entry table.
 fn indexed(
-    image: &[u8],
-    h: Header,
-    s: Segment,
-    selectors: &[u16],
-    answers: &[u32],
-    stored: &[u8],
-    array: &mut [u8],
-    output: &mut [u8],
-    marks: &mut [u8],
-) -> Answer
-    requires { Room image.now h s answers.now output.old marks.old × (stored.now ≡ take s.stored (drop s.start image.now)) × (length array.old ≡ s.stored) }
-    ensures { Leaves (outcome_in image.now h s selectors.now answers.now marks.old) result output.old output.new marks.old marks.new }
-{
-    let mut ordinals = [0u32; 16384];
-    entry::fill(entry::table(image, h), &mut ordinals);
-    in_array(
-        image, h, s, &ordinals, selectors, answers, stored, array, output, marks,
-    )
-}
-
-// Applies the records in an array of as many bytes as are stored. It goes to the output once all records are known good; otherwise the
-// marks are cleared again.
-fn in_array(
-    image: &[u8],
-    h: Header,
-    s: Segment,
-    ordinals: &[u32],
-    selectors: &[u16],
-    answers: &[u32],
-    stored: &[u8],
+    job: &Job,
     bytes: &mut [u8],
     output: &mut [u8],
     marks: &mut [u8],
-) -> Answer
-    requires { Room image.now h s answers.now output.old marks.old × (stored.now ≡ take s.stored (drop s.start image.now)) × (length bytes.old ≡ s.stored) × Indexes (table_bytes image.now h) ordinals.now }
-    ensures { Leaves (outcome_in image.now h s selectors.now answers.now marks.old) result output.old output.new marks.old marks.new }
+) -> Result<u32, Rejection>
+    requires lent { Lent job.now.segment output.old marks.old }
+    requires size { length bytes.old ≡ job.now.segment.stored }
+    ensures { Leaves (outcome_of_job job.now marks.old) result output.old output.new marks.old marks.new }
 {
-    le::slice::copy(stored, bytes);
-    let size = stored.len();
-    let answer = records::all(
-        image,
-        h,
-        s,
-        ordinals,
-        selectors,
-        answers,
-        stored,
-        &mut marks[..size],
-        bytes,
-    );
-    match answer {
-        Answer::Refused(why, number) => {
+    let mut ordinals = [START; 16384];
+    entry::fill(entry::table(&job.module), &mut ordinals);
+    in_bytes(job, &ordinals, bytes, output, marks)
+}
+
+// Applies the records in as many bytes as are stored. They go to the output once all records are known good; otherwise the marks
+// are cleared again.
+fn in_bytes(
+    job: &Job,
+    ordinals: &[Place],
+    bytes: &mut [u8],
+    output: &mut [u8],
+    marks: &mut [u8],
+) -> Result<u32, Rejection>
+    requires lent { Lent job.now.segment output.old marks.old }
+    requires size { length bytes.old ≡ job.now.segment.stored }
+    requires index { Indexes (table_bytes job.now.module.image.now job.now.module.header) ordinals.now }
+    ensures { Leaves (outcome_of_job job.now marks.old) result output.old output.new marks.old marks.new }
+{
+    let stored = stored(job);
+    bytes.copy_from_slice(stored);
+    match records::all(job, ordinals, stored, &mut marks[..stored.len()], bytes) {
+        Err(rejection) => {
             le::slice::clear(marks);
-            Answer::Refused(why, number)
+            Err(rejection)
         }
-        Answer::Accepted(sites) => {
-            fill::output(bytes, s.allocation as usize, output);
-            Answer::Accepted(sites)
+        Ok(sites) => {
+            fill::output(bytes, job.segment.allocation as usize, output);
+            Ok(sites)
         }
     }
 }

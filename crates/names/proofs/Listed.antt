@@ -4,17 +4,13 @@
 --     ended        length 0 ends it
 --     one_name     a name, and the list behind it
 -- Assumes nothing.
-use mathlib.Core.Path.{◌≡◌, ◌∙◌, refl}
-use mathlib.Core.Bool.{Bool, true, false, cond}
+use mathlib.Core.Path.{◌≡◌, ◌∙◌}
 use mathlib.Core.List.{List, [], ◌∷◌}
 use Prim.Native.Nat.{ℕ, ◌+◌, ◌≤◌, ◌<◌}
 use native.Mathlib.Omega.{arith}
 use borrow.Author.Tests.{lt-ltb, le-ltb, eq-eqb, ne_eqb, ltb-false, eqb-false}
-use lib.Dec.{ltb, eqb}
 use Rattle.le.specs.Number.{byte_at}
 use Rattle.refusal.specs.declared.Refusal.{Refusal}
-use Rattle.checks.specs.Checks.{◌⇒◌, decide}
-use Rattle.checks.proofs.Impossible.{never}
 use Rattle.tables.specs.Table.{Place, Step, Next, End, Stop, Sound, Unsound, after, on_step, table_of}
 use Rattle.tables.proofs.Turns.{unrolled}
 use Rattle.names.specs.declared.Name.{Name}
@@ -30,24 +26,12 @@ pub record Went (image : List ℕ) (limit : ℕ) (p : Place) (xs : List Name) (t
 module _ (image : List ℕ) (limit : ℕ) (why : Refusal) where
   pub went : (p : Place) (xs : List Name) (t : Place) → step_of image limit why p ≡ Next xs t → Went image limit p xs t
   unfolding step_of
-  went p xs t e = go (ltb limit (p.at + 1)) (eqb (byte_at image p.at) 0) (ltb limit (p.at + 1 + byte_at image p.at + 2)) refl refl e
-    where
-      go : (short none long : Bool) → eqb (byte_at image p.at) 0 ≡ none → ltb limit (p.at + 1 + byte_at image p.at + 2) ≡ long → ◌≡◌ {A = Step Name Refusal} (decide Stop ((short ⇒ why) ∷ []) (cond none End (decide Stop ((long ⇒ why) ∷ []) (Next (name_at image p ∷ []) (behind (name_at image p)))))) (Next xs t) → Went image limit p xs t
-      go true none long q r h = never cc
-      go false true long q r h = never cc
-      go false false true q r h = never cc
-      go false false false q r h =
-          let there : byte_at image p.at ≡ 0 → ⊥ = eqb-false _ _ q in
-          record { name = cc; place = cc; some = omega (arith, there); fits = ltb-false _ _ r }
+  went p xs t e = record { name = grind (arith, ltb-false, eqb-false); place = grind (arith, ltb-false, eqb-false); some = grind (arith, ltb-false, eqb-false); fits = grind (arith, ltb-false, eqb-false) }
 
   -- At the end of a list its length byte is there.
   pub end_inside : (p : Place) → step_of image limit why p ≡ End → p.at + 1 ≤ limit
   unfolding step_of
-  end_inside p e = go (ltb limit (p.at + 1)) refl e
-    where
-      go : (short : Bool) → ltb limit (p.at + 1) ≡ short → ◌≡◌ {A = Step Name Refusal} (decide Stop ((short ⇒ why) ∷ []) (cond (eqb (byte_at image p.at) 0) End (decide Stop ((ltb limit (p.at + 1 + byte_at image p.at + 2) ⇒ why) ∷ []) (Next (name_at image p ∷ []) (behind (name_at image p)))))) End → p.at + 1 ≤ limit
-      go true q h = never cc
-      go false q h = ltb-false _ _ q
+  end_inside p e = grind (arith, ltb-false)
 
   on : (p : Place) (xs : List Name) (t : Place) → step_of image limit why p ≡ Next xs t → (p.at < t.at) × (t.at ≤ limit)
   on p xs t e =

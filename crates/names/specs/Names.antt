@@ -1,17 +1,16 @@
 -- Document 01, "Names": the two lists with their numbers and places, and the two queries.
-use Rattle.std.specs.Prelude.{ℕ, ◌+◌, cond, List, [], ◌∷◌, ◌++◌, length, take, drop, ltb, eqb}
+use Rattle.std.specs.Prelude.{ℕ, ◌+◌, cond, List, [], ◌∷◌, ◌++◌, length, take, drop, ltb, eqb, Result, Ok, Err}
 use Rattle.le.specs.Number.{byte_at, word_at}
 use Rattle.refusal.specs.declared.Refusal.{Refusal}
 use Rattle.refusal.specs.declared.Refusal.TheVariants.{NoSuchNumber, ResidentNames, NonresidentNames, NoSuchName}
 use Rattle.checks.specs.Checks.{◌⇒◌, decide}
 use Rattle.tables.specs.Table.{Place, Step, Next, End, Stop, Table, Sound, on_table, table_of}
 use Rattle.tables.specs.Query.{numbered, first_of}
-use Rattle.header.specs.Header.{header_of, on_header}
+use Rattle.header.specs.Header.{header_of}
+use Rattle.checks.specs.Onward.{◌>>=◌}
 use Rattle.header.specs.declared.Header.{Header}
 use Rattle.names.specs.Text.{same}
 use Rattle.names.specs.declared.Name.{Name}
-use Rattle.names.specs.declared.Answer.{Answer}
-use Rattle.names.specs.declared.Answer.TheVariants.{Accepted, Refused}
 
 -- "length byte, text, ordinal word": the name at a place.
 abbrev pub name_at : List ℕ → Place → Name
@@ -52,21 +51,21 @@ nonresident_of image h used =
     cond (eqb t.count 0) (Sound []) (list_from image (nonresident_end h) NonresidentNames t.at used)
 
 -- "Names: both lists are checked, 16, then 8 or 17": the header's refusals, the lists', then what is asked of their names.
-abbrev pub asked : List ℕ → (List Name → List Name → Answer) → Answer
+abbrev pub asked : List ℕ → (List Name → List Name → Result Name Refusal) → Result Name Refusal
 asked image query =
-    on_header (header_of image) Refused λ h.
-    on_table (resident_of image h) Refused λ resident.
-    on_table (nonresident_of image h (length resident)) Refused λ nonresident.
+    header_of image >>= λ h.
+    on_table (resident_of image h) Err λ resident.
+    on_table (nonresident_of image h (length resident)) Err λ nonresident.
     query resident nonresident
 
 -- "8: number 0 or above the count". "first strings included".
-unfoldable pub name_by_number : List ℕ → ℕ → Answer
-name_by_number image number = asked image λ resident nonresident. numbered number Accepted (Refused NoSuchNumber) (resident ++ nonresident)
+unfoldable pub name_by_number : List ℕ → ℕ → Result Name Refusal
+name_by_number image number = asked image λ resident nonresident. numbered number Ok (Err NoSuchNumber) (resident ++ nonresident)
 
 -- The bytes of a name's text.
 abbrev pub text_of : List ℕ → Name → List ℕ
 text_of image n = take n.len (drop n.at image)
 
 -- "takes the first match: resident from the second string on, then nonresident from the second on". "17: name not found".
-unfoldable pub name_by_bytes : List ℕ → List ℕ → Answer
-name_by_bytes image name = asked image λ resident nonresident. first_of (λ n. same (text_of image n) name) Accepted (Refused NoSuchName) (drop 1 resident ++ drop 1 nonresident)
+unfoldable pub name_by_bytes : List ℕ → List ℕ → Result Name Refusal
+name_by_bytes image name = asked image λ resident nonresident. first_of (λ n. same (text_of image n) name) Ok (Err NoSuchName) (drop 1 resident ++ drop 1 nonresident)

@@ -5,14 +5,16 @@
 
 mod list;
 mod text;
+mod wanted;
 
 ghost use Rattle.std.specs.Prelude.{◌≡◌, ◌<◌, ◌^◌};
 ghost use Rattle.names.specs.Names.{name_by_number, name_by_bytes};
-ghost use Rattle.names.specs.Internal.{answer_of, answer_in, answer_behind, concluded};
+ghost use Rattle.names.specs.Internal.{found_of, found_after};
 
-use header::Header;
+use header::Module;
 use list::Extent;
 use refusal::Refusal;
+use wanted::{Numbered, Spelled, Wanted};
 
 #[derive(Clone, Copy)]
 pub struct Name {
@@ -24,134 +26,69 @@ pub struct Name {
     pub ordinal: u16,
 }
 
-// What a request for a name answers.
-#[derive(Clone, Copy)]
-pub enum Answer {
-    Accepted(Name),
-    Refused(Refusal),
-}
-
-// What is asked for: a number, or the bytes that are handed over beside the request.
-#[derive(Clone, Copy)]
-enum Request {
-    Number(u32),
-    Bytes,
-}
-
-// What a search has found.
-#[derive(Clone, Copy)]
-enum Match {
-    Found(Name),
-    Nothing,
-}
-
-// How far a search has come: how many names are behind it, and what was found.
+// How far a search has come: how many names it has passed, and what was found among them.
 #[derive(Clone, Copy)]
 struct Progress {
     pub used: usize,
-    pub found: Match,
-}
-
-// What a walk of a whole list answers.
-#[derive(Clone, Copy)]
-enum Walked {
-    Sound(Progress),
-    Unsound(Refusal),
+    pub found: Option<Name>,
 }
 
 // The name of a number.
-pub fn by_number(image: &[u8], number: u32) -> Answer
+#[tactic(auto, using(crate::proofs::Answers::by_number))]
+pub fn by_number(image: &[u8], number: u32) -> Result<Name, Refusal>
     ensures { result ≡ name_by_number image.now number }
 {
-    let no_bytes = le::slice::first(image, 0);
-    ask(
-        image,
-        Request::Number(number),
-        no_bytes,
-        Refusal::NoSuchNumber,
-    )
+    let numbered = Numbered {
+        number: number as usize,
+    };
+    search(image, &numbered)?.ok_or(Refusal::NoSuchNumber)
 }
 
 // The first name with exactly these bytes.
-pub fn by_bytes(image: &[u8], name: &[u8]) -> Answer
+#[tactic(auto, using(crate::proofs::Answers::by_bytes))]
+pub fn by_bytes(image: &[u8], name: &[u8]) -> Result<Name, Refusal>
     ensures { result ≡ name_by_bytes image.now name.now }
 {
-    ask(image, Request::Bytes, name, Refusal::NoSuchName)
+    let spelled = Spelled { image, text: name };
+    search(image, &spelled)?.ok_or(Refusal::NoSuchName)
 }
 
-// What is asked for; where the lists haven't got it, the refusal `none`.
-#[tactic(auto, unfolding(crate::specs::Internal::answer_of))]
-fn ask(image: &[u8], request: Request, name: &[u8], none: Refusal) -> Answer
-    ensures { result ≡ answer_of image.now request name.now none }
+// What is asked for: in the resident list, which ends inside the image, and then in the nonresident one.
+#[tactic(auto, unfolding(crate::specs::Internal::found_of))]
+fn search<W: Wanted>(image: &[u8], wanted: &W) -> Result<Option<Name>, Refusal>
+    ensures { result ≡ found_of image.now (W.takes wanted.now) }
 {
-    let headers = header::read(image);
-    match headers {
-        header::Answer::Refused(why) => Answer::Refused(why),
-        header::Answer::Accepted(h) => in_lists(image, h, request, name, none),
-    }
-}
-
-// The same once the header is known: the resident list, which ends inside the image, then the nonresident one.
-#[tactic(auto, unfolding(crate::specs::Internal::answer_in))]
-fn in_lists(image: &[u8], h: Header, request: Request, name: &[u8], none: Refusal) -> Answer
-    ensures { result ≡ answer_in image.now h request name.now none }
-{
+    let header = header::read(image)?;
+    let m = Module { image, header };
     let resident = Extent {
-        at: h.resident as usize,
+        at: header.resident as usize,
         limit: image.len(),
         why: Refusal::ResidentNames,
     };
     let start = Progress {
         used: 0,
-        found: Match::Nothing,
+        found: None,
     };
-    let walked = list::walk(image, resident, start, request, name);
-    match walked {
-        Walked::Unsound(why) => Answer::Refused(why),
-        Walked::Sound(p) => in_nonresident(image, h, p, request, name, none),
-    }
+    let p = list::walk(image, resident, start, wanted)?;
+    in_nonresident(&m, p, wanted)
 }
 
-// The nonresident list, which ends inside its byte count, behind what the resident list gave.
-#[tactic(auto, unfolding(crate::specs::Internal::answer_behind, tables::specs::Query::first_of))]
-fn in_nonresident(
-    image: &[u8],
-    h: Header,
-    p: Progress,
-    request: Request,
-    name: &[u8],
-    none: Refusal,
-) -> Answer
+// The nonresident list, which ends inside its byte count, after what the resident list gave.
+#[tactic(auto, unfolding(crate::specs::Internal::found_after, tables::specs::Query::first_of))]
+fn in_nonresident<W: Wanted>(m: &Module, p: Progress, wanted: &W) -> Result<Option<Name>, Refusal>
     requires { p.used < 2 ^ 63 }
-    ensures { result ≡ answer_behind image.now h p request name.now none }
+    ensures { result ≡ found_after m.now.image.now m.now.header p (W.takes wanted.now) }
 {
-    let size = h.nonresident.count;
-    let found = p.found;
+    let size = m.header.nonresident.count;
     if size == 0 {
-        return conclude(found, none);
+        return Ok(p.found);
     }
-    let at = h.nonresident.at as usize;
+    let at = m.header.nonresident.at as usize;
     let nonresident = Extent {
-        at: at,
+        at,
         limit: at + size as usize,
         why: Refusal::NonresidentNames,
     };
-    let walked = list::walk(image, nonresident, p, request, name);
-    match walked {
-        Walked::Unsound(why) => Answer::Refused(why),
-        Walked::Sound(all) => {
-            let found = all.found;
-            conclude(found, none)
-        }
-    }
-}
-
-// The answer for what was found.
-fn conclude(found: Match, none: Refusal) -> Answer
-    ensures { result ≡ concluded found none }
-{
-    match found {
-        Match::Nothing => Answer::Refused(none),
-        Match::Found(n) => Answer::Accepted(n),
-    }
+    let all = list::walk(m.image, nonresident, p, wanted)?;
+    Ok(all.found)
 }

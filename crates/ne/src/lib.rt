@@ -23,7 +23,7 @@ ghost use Rattle.listing.specs.Listing.{lines_of};
 ghost use Rattle.ne.specs.Fields.{header_fields, segment_fields, ordinal_fields, name_fields, module_fields, resource_fields, Prepares};
 
 #[repr(C)]
-#[derive(Drop)]
+#[derive(Default, Drop)]
 pub struct NeHeader {
     pub refusal: u32,
     pub header_at: u32,
@@ -42,7 +42,7 @@ pub struct NeHeader {
 }
 
 #[repr(C)]
-#[derive(Drop)]
+#[derive(Default, Drop)]
 pub struct NeSegment {
     pub refusal: u32,
     pub start: u32,
@@ -53,7 +53,7 @@ pub struct NeSegment {
 }
 
 #[repr(C)]
-#[derive(Drop)]
+#[derive(Default, Drop)]
 pub struct NeOrdinal {
     pub refusal: u32,
     pub segment: u32,
@@ -62,7 +62,7 @@ pub struct NeOrdinal {
 }
 
 #[repr(C)]
-#[derive(Drop)]
+#[derive(Default, Drop)]
 pub struct NeName {
     pub refusal: u32,
     pub number: u32,
@@ -72,7 +72,7 @@ pub struct NeName {
 }
 
 #[repr(C)]
-#[derive(Drop)]
+#[derive(Default, Drop)]
 pub struct NeModule {
     pub refusal: u32,
     pub text_at: u32,
@@ -80,7 +80,7 @@ pub struct NeModule {
 }
 
 #[repr(C)]
-#[derive(Drop)]
+#[derive(Default, Drop)]
 pub struct NeResource {
     pub refusal: u32,
     // `type` in the C header.
@@ -110,29 +110,19 @@ pub extern "C" fn ne_header(image: &[u8]) -> NeHeader
 pub extern "C" fn ne_segment(image: &[u8], number: u32) -> NeSegment
     ensures { segment_fields result ≡ segment.values_of (segment_of image.now number) }
 {
-    let answer = segment::by_number(image, number);
-    match answer {
-        segment::Answer::Refused(why) => NeSegment {
-            refusal: refusal::number(why),
-            start: 0,
-            stored: 0,
-            flags: 0,
-            allocation: 0,
-            records: 0,
+    match segment::by_number(image, number) {
+        Err(why) => NeSegment {
+            refusal: u32::from(why),
+            ..NeSegment::default()
         },
-        segment::Answer::Accepted(s) => {
-            let start = s.start as u32;
-            let flags = s.flags as u32;
-            let records = s.records as u32;
-            NeSegment {
-                refusal: 0,
-                start: start,
-                stored: s.stored,
-                flags: flags,
-                allocation: s.allocation,
-                records: records,
-            }
-        }
+        Ok(s) => NeSegment {
+            refusal: 0,
+            start: s.start as u32,
+            stored: s.stored,
+            flags: s.flags as u32,
+            allocation: s.allocation,
+            records: s.records as u32,
+        },
     }
 }
 
@@ -140,25 +130,17 @@ pub extern "C" fn ne_segment(image: &[u8], number: u32) -> NeSegment
 pub extern "C" fn ne_ordinal(image: &[u8], number: u32) -> NeOrdinal
     ensures { ordinal_fields result ≡ entry.values_of (ordinal_of image.now number) }
 {
-    let answer = entry::by_ordinal(image, number);
-    match answer {
-        bundle::Answer::Refused(why) => NeOrdinal {
-            refusal: refusal::number(why),
-            segment: 0,
-            offset: 0,
-            flag: 0,
+    match entry::by_ordinal(image, number) {
+        Err(why) => NeOrdinal {
+            refusal: u32::from(why),
+            ..NeOrdinal::default()
         },
-        bundle::Answer::Accepted(e) => {
-            let segment = e.segment as u32;
-            let offset = e.offset as u32;
-            let flag = e.flag as u32;
-            NeOrdinal {
-                refusal: 0,
-                segment: segment,
-                offset: offset,
-                flag: flag,
-            }
-        }
+        Ok(e) => NeOrdinal {
+            refusal: 0,
+            segment: e.segment as u32,
+            offset: e.offset as u32,
+            flag: e.flag as u32,
+        },
     }
 }
 
@@ -180,22 +162,16 @@ pub extern "C" fn ne_name_by_bytes(image: &[u8], name: &[u8]) -> NeName
 pub extern "C" fn ne_module(image: &[u8], number: u32) -> NeModule
     ensures { module_fields result ≡ imported.values_of (module_of image.now number) }
 {
-    let answer = imports::by_number(image, number);
-    match answer {
-        imports::Answer::Refused(why) => NeModule {
-            refusal: refusal::number(why),
-            text_at: 0,
-            text_len: 0,
+    match imports::by_number(image, number) {
+        Err(why) => NeModule {
+            refusal: u32::from(why),
+            ..NeModule::default()
         },
-        imports::Answer::Accepted(text) => {
-            let text_at = text.at as u32;
-            let text_len = text.len as u32;
-            NeModule {
-                refusal: 0,
-                text_at: text_at,
-                text_len: text_len,
-            }
-        }
+        Ok(text) => NeModule {
+            refusal: 0,
+            text_at: text.at as u32,
+            text_len: text.len as u32,
+        },
     }
 }
 

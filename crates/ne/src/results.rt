@@ -8,28 +8,21 @@ ghost use Rattle.ne.specs.Fields.{header_fields, name_fields, resource_fields, p
 ghost use Rattle.ne.specs.Internal.{NameFits};
 
 use crate::{NeHeader, NeName, NePrepare, NeResource};
+use header::Header;
+use names::Name;
+use prepare::Rejection;
+use refusal::Refusal;
+use resources::Resource;
 
-pub fn header(answer: header::Answer) -> NeHeader
+pub fn header(answer: Result<Header, Refusal>) -> NeHeader
     ensures { header_fields result ≡ header.values_of answer }
 {
     match answer {
-        header::Answer::Refused(why) => NeHeader {
-            refusal: refusal::number(why),
-            header_at: 0,
-            unit: 0,
-            segments_at: 0,
-            segments: 0,
-            modules_at: 0,
-            modules: 0,
-            entries_at: 0,
-            entries_len: 0,
-            nonresident_at: 0,
-            nonresident_len: 0,
-            resident_at: 0,
-            imported_at: 0,
-            resources_at: 0,
+        Err(why) => NeHeader {
+            refusal: u32::from(why),
+            ..NeHeader::default()
         },
-        header::Answer::Accepted(h) => NeHeader {
+        Ok(h) => NeHeader {
             refusal: 0,
             header_at: h.ne,
             unit: h.unit,
@@ -48,75 +41,57 @@ pub fn header(answer: header::Answer) -> NeHeader
     }
 }
 
-pub fn name(answer: names::Answer) -> NeName
+pub fn name(answer: Result<Name, Refusal>) -> NeName
     requires { NameFits answer }
     ensures { name_fields result ≡ names.values_of answer }
 {
     match answer {
-        names::Answer::Refused(why) => NeName {
-            refusal: refusal::number(why),
-            number: 0,
-            text_at: 0,
-            text_len: 0,
-            ordinal: 0,
+        Err(why) => NeName {
+            refusal: u32::from(why),
+            ..NeName::default()
         },
-        names::Answer::Accepted(n) => {
-            let number = n.number as u32;
-            let text_at = n.at as u32;
-            let text_len = n.len as u32;
-            let ordinal = n.ordinal as u32;
-            NeName {
-                refusal: 0,
-                number: number,
-                text_at: text_at,
-                text_len: text_len,
-                ordinal: ordinal,
-            }
-        }
+        Ok(n) => NeName {
+            refusal: 0,
+            number: n.number as u32,
+            text_at: n.at as u32,
+            text_len: n.len as u32,
+            ordinal: n.ordinal as u32,
+        },
     }
 }
 
-pub fn resource(answer: resources::Answer) -> NeResource
+pub fn resource(answer: Result<Resource, Refusal>) -> NeResource
     ensures { resource_fields result ≡ resources.values_of answer }
 {
     match answer {
-        resources::Answer::Refused(why) => NeResource {
-            refusal: refusal::number(why),
-            kind: 0,
-            id: 0,
-            flags: 0,
-            data_at: 0,
-            data_len: 0,
+        Err(why) => NeResource {
+            refusal: u32::from(why),
+            ..NeResource::default()
         },
-        resources::Answer::Accepted(r) => {
-            let kind = r.kind as u32;
-            let id = r.id as u32;
-            let flags = r.flags as u32;
-            NeResource {
-                refusal: 0,
-                kind: kind,
-                id: id,
-                flags: flags,
-                data_at: r.at,
-                data_len: r.len,
-            }
-        }
+        Ok(r) => NeResource {
+            refusal: 0,
+            kind: r.kind as u32,
+            id: r.id as u32,
+            flags: r.flags as u32,
+            data_at: r.at,
+            data_len: r.len,
+        },
     }
 }
 
-pub fn prepared(answer: prepare::Answer) -> NePrepare
+pub fn prepared(answer: Result<u32, Rejection>) -> NePrepare
     ensures { prepare_fields result ≡ prepared.values_of answer }
 {
     match answer {
-        prepare::Answer::Refused(why, number) => NePrepare {
-            refusal: refusal::number(why),
-            record: number,
+        Err(rejection) => NePrepare {
+            refusal: u32::from(rejection.why),
+            record: rejection.number,
             sites: 0,
         },
-        prepare::Answer::Accepted(sites) => NePrepare {
+        Ok(sites) => NePrepare {
             refusal: 0,
             record: 0,
-            sites: sites,
+            sites,
         },
     }
 }

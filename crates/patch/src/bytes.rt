@@ -10,10 +10,12 @@ use site::Fixup;
 pub fn low_byte(f: Fixup, byte: u8) -> u8
     ensures { result ≡ low_byte_of f byte }
 {
+    let low = (f.offset % 256) as u8;
     if f.additive {
-        return ((byte as u32 + f.offset as u32) % 256) as u8;
+        byte.wrapping_add(low)
+    } else {
+        low
     }
-    (f.offset % 256) as u8
 }
 
 // The target's offset, added to the word that is there if the fixup is additive. A carry is dropped.
@@ -21,9 +23,10 @@ pub fn offset(f: Fixup, word: u16) -> u16
     ensures { result ≡ offset_of f word }
 {
     if f.additive {
-        return std::num::wrapping_add_u16(word, f.offset);
+        word.wrapping_add(f.offset)
+    } else {
+        f.offset
     }
-    f.offset
 }
 
 // Writes a word at the place `at`.
@@ -31,6 +34,5 @@ pub fn word(buffer: &mut [u8], at: usize, w: u16)
     requires { at + 2 ≤ length buffer.old }
     ensures { buffer.new ≡ sets buffer.old at (bytes_of 2 w) }
 {
-    buffer[at] = (w % 256) as u8;
-    buffer[at + 1] = (w / 256 % 256) as u8;
+    buffer[at..at + 2].copy_from_slice(&w.to_le_bytes());
 }

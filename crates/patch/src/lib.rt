@@ -11,12 +11,12 @@ use site::{Fixup, Kind};
 
 // The bytes of a fixup's span.
 pub fn width(kind: Kind, additive: bool) -> u8
-    ensures { (result ≡ width_of kind additive) × (result ≤ 4) }
+    ensures is { result ≡ width_of kind additive }
+    ensures small { result ≤ 4 }
 {
     match kind {
         Kind::Far => 4,
-        Kind::Selector => 2,
-        Kind::Offset => 2,
+        Kind::Selector | Kind::Offset => 2,
         Kind::LowByte => if additive { 1 } else { 2 },
     }
 }
@@ -26,20 +26,13 @@ pub fn put(f: Fixup, byte: u8, word: u16, buffer: &mut [u8], at: usize)
     requires { at + width_of f.kind f.additive ≤ length buffer.old }
     ensures { buffer.new ≡ sets buffer.old at (written_over f.kind f byte word) }
 {
-    let kind = f.kind;
-    match kind {
-        Kind::LowByte => {
-            buffer[at] = bytes::low_byte(f, byte);
-        }
-        Kind::Selector => {
-            bytes::word(buffer, at, f.selector);
-        }
+    match f.kind {
+        Kind::LowByte => buffer[at] = bytes::low_byte(f, byte),
+        Kind::Selector => bytes::word(buffer, at, f.selector),
         Kind::Far => {
             bytes::word(buffer, at, bytes::offset(f, word));
             bytes::word(buffer, at + 2, f.selector);
         }
-        Kind::Offset => {
-            bytes::word(buffer, at, bytes::offset(f, word));
-        }
+        Kind::Offset => bytes::word(buffer, at, bytes::offset(f, word)),
     }
 }

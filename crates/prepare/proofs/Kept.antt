@@ -1,12 +1,13 @@
 -- What answers, and leaves in the buffers, what preparing means, keeps preparing's promise.
 -- Assumes nothing.
+use Rattle.std.specs.Prelude.{Result}
 use mathlib.Core.Path.{◌≡◌, refl}
 use mathlib.Core.List.{List, ◌++◌}
 use Prim.Native.Nat.{ℕ}
 use lib.ListN.{length, take, drop}
 use lib.Seq.{take_at, drop_at}
 use Rattle.le.specs.Number.{Bytes}
-use Rattle.prepare.specs.declared.Answer.{Answer}
+use Rattle.prepare.specs.declared.Rejection.{Rejection}
 use Rattle.prepare.specs.Prepare.{Request, Outcome, Prepared, Refused, prepare_of, answer_of, output_after, marks_after}
 use Rattle.prepare.specs.Demands.{Demands}
 use Rattle.prepare.specs.Promise.{Meets, Promise}
@@ -21,6 +22,6 @@ module _ (q : Request) (bytes : Bytes q.image) (output marks : List ℕ) where
       (h, s, ready, rw front d, rw (behind, size))
   meets (Refused why number) e r = (r.beside, refl, refl)
 
-  pub kept : (answer : Answer) (output' marks' : List ℕ) → answer ≡ answer_of (prepare_of q) → output' ≡ output_after (prepare_of q) output → marks' ≡ marks_after (prepare_of q) marks → Promise q answer output output' marks marks'
+  pub kept : (answer : Result ℕ Rejection) (output' marks' : List ℕ) → answer ≡ answer_of (prepare_of q) → output' ≡ output_after (prepare_of q) output → marks' ≡ marks_after (prepare_of q) marks → Promise q answer output output' marks marks'
   kept answer output' marks' a o m =
       record { answer_is = a; output_is = o; marks_are = m; demands = rw (a, o, m) (meets (prepare_of q) refl (demands q bytes)) }

@@ -3,6 +3,7 @@
 --     stored_sites  the sites that each writes in the unfixed segment are those of its stored chain, or its single one
 --     own_sites     each changes only what is written at its own record's sites, on any buffer
 -- Assumes nothing.
+use Rattle.std.specs.Prelude.{Result, Ok, Err, Option}
 use mathlib.Core.Path.{◌≡◌, refl, sym, ◌∙◌}
 use mathlib.Core.List.{List, [], ◌∷◌, map, Perm}
 use Prim.Native.Nat.{ℕ}
@@ -10,10 +11,11 @@ use lib.ListN.{length}
 use Rattle.le.specs.Number.{byte_at}
 use Rattle.lists.specs.Lists.{All, in_turn, gathered}
 use Rattle.lists.proofs.Each.{each_same, each_mapped}
-use Rattle.header.specs.Header.{header_of, on_header}
+use Rattle.header.specs.Header.{header_of}
+use Rattle.checks.specs.Onward.{on_result}
 use Rattle.header.specs.declared.Header.{Header}
-use Rattle.header.specs.declared.Answer as header
-use Rattle.header.specs.declared.Answer.TheVariants as headers
+use Rattle.refusal.specs.declared.Refusal.{Refusal}
+use Rattle.site.specs.declared.Fixup.{Fixup}
 use Rattle.segment.specs.declared.Segment.{Segment}
 use Rattle.fixup.specs.Record.{record_at, bytes_at}
 use Rattle.fixup.specs.Action.{action_of}
@@ -22,7 +24,6 @@ use Rattle.site.specs.Exact.{IsWritten}
 use Rattle.site.specs.Prepared.{unfixed, prepared}
 use Rattle.site.specs.Walk.{Walked}
 use Rattle.site.specs.Step as site
-use Rattle.site.specs.declared.Action.{Action}
 use Rattle.site.proofs.Order as site-order
 use Rattle.site.proofs.Step as site-step
 use Rattle.prepare.specs.Prepare.{Request, Prepared, stored_of, list_of, action_in, import_answer, actions_of, outcome_of, prepare_of}
@@ -33,22 +34,22 @@ use Rattle.prepare.proofs.Accept.{stored_fits, to_sites, made}
 
 module _ (q : Request) (h : Header) where
   -- What a record asks for that a step is given.
-  abbrev action : Given → Action
+  abbrev action : Given → Result (Option Fixup) Refusal
   action g = action_of q.image h q.selectors g.answer (record_at g.bytes 0)
 
-  step_is : header_of q.image ≡ headers.Accepted h → (g : Given) (buffer : List ℕ) → step_of q.image q.selectors g buffer ≡ site.step_of (action g) buffer
+  step_is : header_of q.image ≡ Ok h → (g : Given) (buffer : List ℕ) → step_of q.image q.selectors g buffer ≡ site.step_of (action g) buffer
   unfolding step_of
   step_is good g buffer = rw good
 
-  steps_are : header_of q.image ≡ headers.Accepted h → (records : List Given) (buffer : List ℕ) → steps_of q records buffer ≡ in_turn site.step_of (map action records) buffer
+  steps_are : header_of q.image ≡ Ok h → (records : List Given) (buffer : List ℕ) → steps_of q records buffer ≡ in_turn site.step_of (map action records) buffer
   steps_are good [] buffer = refl
   steps_are good (g ∷ records) buffer = rw (step_is good g buffer) (steps_are good records (site.step_of (action g) buffer))
 
-  visit_is : header_of q.image ≡ headers.Accepted h → (g : Given) (buffer : List ℕ) → visited_of q.image q.selectors g buffer ≡ site.visited (action g) buffer
+  visit_is : header_of q.image ≡ Ok h → (g : Given) (buffer : List ℕ) → visited_of q.image q.selectors g buffer ≡ site.visited (action g) buffer
   unfolding visited_of
   visit_is good g buffer = rw good
 
-  visits_are : header_of q.image ≡ headers.Accepted h → (buffer : List ℕ) (records : List Given) → gathered (λ g. visited_of q.image q.selectors g buffer) records ≡ gathered (λ a. site.visited a buffer) (map action records)
+  visits_are : header_of q.image ≡ Ok h → (buffer : List ℕ) (records : List Given) → gathered (λ g. visited_of q.image q.selectors g buffer) records ≡ gathered (λ a. site.visited a buffer) (map action records)
   visits_are good buffer [] = refl
   visits_are good buffer (g ∷ records) = rw (visit_is good g buffer, visits_are good buffer records)
 
@@ -83,14 +84,14 @@ module _ (image selectors : List ℕ) (g : Given) (buffer : List ℕ) where
   unfolding step_of visited_of
   own_sites place free = go (header_of image) free
     where
-      go : (a : header.Answer) → All (λ x. IsWritten buffer place x → ⊥) (on_header a (λ why. []) (λ h. site.visited (action_of image h selectors g.answer (record_at g.bytes 0)) buffer)) → byte_at (on_header a (λ why. buffer) (λ h. site.step_of (action_of image h selectors g.answer (record_at g.bytes 0)) buffer)) place ≡ byte_at buffer place
-      go (headers.Accepted h) k = site-step.own_sites (action_of image h selectors g.answer (record_at g.bytes 0)) buffer place k
-      go (headers.Refused why) k = refl
+      go : (a : Result Header Refusal) → All (λ x. IsWritten buffer place x → ⊥) (on_result a (λ why. []) (λ h. site.visited (action_of image h selectors g.answer (record_at g.bytes 0)) buffer)) → byte_at (on_result a (λ why. buffer) (λ h. site.step_of (action_of image h selectors g.answer (record_at g.bytes 0)) buffer)) place ≡ byte_at buffer place
+      go (Ok h) k = site-step.own_sites (action_of image h selectors g.answer (record_at g.bytes 0)) buffer place k
+      go (Err why) k = refl
 
   pub step_length : length (step_of image selectors g buffer) ≡ length buffer
   unfolding step_of
   step_length = go (header_of image)
     where
-      go : (a : header.Answer) → length (on_header a (λ why. buffer) (λ h. site.step_of (action_of image h selectors g.answer (record_at g.bytes 0)) buffer)) ≡ length buffer
-      go (headers.Accepted h) = site-step.length_step (action_of image h selectors g.answer (record_at g.bytes 0)) buffer
-      go (headers.Refused why) = refl
+      go : (a : Result Header Refusal) → length (on_result a (λ why. buffer) (λ h. site.step_of (action_of image h selectors g.answer (record_at g.bytes 0)) buffer)) ≡ length buffer
+      go (Ok h) = site-step.length_step (action_of image h selectors g.answer (record_at g.bytes 0)) buffer
+      go (Err why) = refl

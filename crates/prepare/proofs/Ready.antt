@@ -4,6 +4,7 @@
 --     was_ready   so what preparing doesn't refuse has passed them
 --     ready_map   what is done with what follows can be done at its end
 -- Assumes nothing.
+use Rattle.std.specs.Prelude.{Result, Ok, Err}
 use mathlib.Core.Path.{◌≡◌, refl}
 use mathlib.Core.Logic.{◌⊎◌, inl, inr}
 use mathlib.Core.Bool.{true, false}
@@ -16,14 +17,11 @@ use Rattle.checks.proofs.Checks.{decided, tried}
 use Rattle.checks.proofs.Impossible.{never}
 use Rattle.refusal.specs.declared.Refusal.{Refusal}
 use Rattle.refusal.specs.declared.Refusal.TheVariants.{NoSuchNumber}
-use Rattle.header.specs.Header.{header_of, on_header, lacks}
+use Rattle.header.specs.Header.{header_of, lacks}
+use Rattle.checks.specs.Onward.{on_result}
 use Rattle.header.specs.declared.Header.{Header}
-use Rattle.header.specs.declared.Answer as header
-use Rattle.header.specs.declared.Answer.TheVariants as headers
-use Rattle.segment.specs.Segment.{record_of, on_segment}
+use Rattle.segment.specs.Segment.{record_of}
 use Rattle.segment.specs.declared.Segment.{Segment}
-use Rattle.segment.specs.declared.Answer as segment
-use Rattle.segment.specs.declared.Answer.TheVariants as segments
 use Rattle.tables.specs.Table as tables
 use Rattle.tables.specs.Table.{on_table}
 use Rattle.bundle.specs.declared.Bundle.{Bundle}
@@ -61,7 +59,7 @@ module _ (q : Request) {A : Type 0} (refuse : Refusal → A) (go : Header → Se
 
   -- What follows of a header whose segment table has the number.
   abbrev numbered : Header → A
-  numbered h = on_table (entries_of q h) refuse (λ bundles. on_segment (record_of q.image h (q.number - 1)) refuse (sized_on h))
+  numbered h = on_table (entries_of q h) refuse (λ bundles. on_result (record_of q.image h (q.number - 1)) refuse (sized_on h))
 
   of_segment : (h : Header) (s : Segment) → Found q h s → Came (sized_on h s)
   unfolding size_checks
@@ -76,20 +74,20 @@ module _ (q : Request) {A : Type 0} (refuse : Refusal → A) (go : Header → Se
   of_number : (h : Header) → Numbered q h → Came (numbered h)
   of_number h n = over (entries_of q h) refl
     where
-      of_record : (bundles : List Bundle) → entries_of q h ≡ tables.Sound bundles → (a : segment.Answer) → record_of q.image h (q.number - 1) ≡ a → Came (on_segment a refuse (sized_on h))
-      of_record bundles sound (segments.Accepted s) e = of_segment h s (record { numbered = n; bundles = bundles; entries = sound; segment = e })
-      of_record bundles sound (segments.Refused why) e = early (by_segment h bundles n sound e)
+      of_record : (bundles : List Bundle) → entries_of q h ≡ tables.Sound bundles → (a : Result Segment Refusal) → record_of q.image h (q.number - 1) ≡ a → Came (on_result a refuse (sized_on h))
+      of_record bundles sound (Ok s) e = of_segment h s (record { numbered = n; bundles = bundles; entries = sound; segment = e })
+      of_record bundles sound (Err why) e = early (by_segment h bundles n sound e)
 
-      over : (t : EntryTable) → entries_of q h ≡ t → Came (on_table t refuse (λ bundles. on_segment (record_of q.image h (q.number - 1)) refuse (sized_on h)))
+      over : (t : EntryTable) → entries_of q h ≡ t → Came (on_table t refuse (λ bundles. on_result (record_of q.image h (q.number - 1)) refuse (sized_on h)))
       over (tables.Sound bundles) e = of_record bundles e (record_of q.image h (q.number - 1)) refl
       over (tables.Unsound why) e = early (by_entries h n e)
 
   pub came : Came (on_ready q refuse go)
   came = over (header_of q.image) refl
     where
-      over : (a : header.Answer) → header_of q.image ≡ a → Came (on_ready q refuse go)
-      over (headers.Accepted h) e = rw e (tried refuse Came ((lacks h.segments.count q.number ⇒ NoSuchNumber) ∷ []) (numbered h) ((λ lacking. early (by_number h e lacking)), (λ has. tt)) (λ p. of_number h (record { header = e; number = p.0 })))
-      over (headers.Refused why) e = rw e (early (by_header e))
+      over : (a : Result Header Refusal) → header_of q.image ≡ a → Came (on_ready q refuse go)
+      over (Ok h) e = rw e (tried refuse Came ((lacks h.segments.count q.number ⇒ NoSuchNumber) ∷ []) (numbered h) ((λ lacking. early (by_number h e lacking)), (λ has. tt)) (λ p. of_number h (record { header = e; number = p.0 })))
+      over (Err why) e = rw e (early (by_header e))
 
 -- What is done with what follows can be done at its end.
 module _ (q : Request) {A B : Type 0} (f : A → B) (refuse : Refusal → A) (go : Header → Segment → A) where
@@ -98,20 +96,20 @@ module _ (q : Request) {A B : Type 0} (f : A → B) (refuse : Refusal → A) (go
   of_checks ((true ⇒ why) ∷ checks) a = refl
   of_checks ((false ⇒ why) ∷ checks) a = of_checks checks a
 
-  map_segment : (h : Header) (a : segment.Answer) → on_segment a (λ why. f (refuse why)) (λ s. decide (λ why. f (refuse why)) (size_checks q h s) (f (go h s))) ≡ f (on_segment a refuse (λ s. decide refuse (size_checks q h s) (go h s)))
-  map_segment h (segments.Accepted s) = of_checks (size_checks q h s) (go h s)
-  map_segment h (segments.Refused why) = refl
+  map_segment : (h : Header) (a : Result Segment Refusal) → on_result a (λ why. f (refuse why)) (λ s. decide (λ why. f (refuse why)) (size_checks q h s) (f (go h s))) ≡ f (on_result a refuse (λ s. decide refuse (size_checks q h s) (go h s)))
+  map_segment h (Ok s) = of_checks (size_checks q h s) (go h s)
+  map_segment h (Err why) = refl
 
-  map_table : (h : Header) (t : EntryTable) → on_table t (λ why. f (refuse why)) (λ bundles. on_segment (record_of q.image h (q.number - 1)) (λ why. f (refuse why)) (λ s. decide (λ why. f (refuse why)) (size_checks q h s) (f (go h s)))) ≡ f (on_table t refuse (λ bundles. on_segment (record_of q.image h (q.number - 1)) refuse (λ s. decide refuse (size_checks q h s) (go h s))))
+  map_table : (h : Header) (t : EntryTable) → on_table t (λ why. f (refuse why)) (λ bundles. on_result (record_of q.image h (q.number - 1)) (λ why. f (refuse why)) (λ s. decide (λ why. f (refuse why)) (size_checks q h s) (f (go h s)))) ≡ f (on_table t refuse (λ bundles. on_result (record_of q.image h (q.number - 1)) refuse (λ s. decide refuse (size_checks q h s) (go h s))))
   map_table h (tables.Sound bundles) = map_segment h (record_of q.image h (q.number - 1))
   map_table h (tables.Unsound why) = refl
 
   pub ready_map : on_ready q (λ why. f (refuse why)) (λ h s. f (go h s)) ≡ f (on_ready q refuse go)
   ready_map = over (header_of q.image)
     where
-      over : (a : header.Answer) → on_header a (λ why. f (refuse why)) (λ h. decide (λ why. f (refuse why)) ((lacks h.segments.count q.number ⇒ NoSuchNumber) ∷ []) (on_table (entries_of q h) (λ why. f (refuse why)) (λ bundles. on_segment (record_of q.image h (q.number - 1)) (λ why. f (refuse why)) (λ s. decide (λ why. f (refuse why)) (size_checks q h s) (f (go h s)))))) ≡ f (on_header a refuse (λ h. decide refuse ((lacks h.segments.count q.number ⇒ NoSuchNumber) ∷ []) (on_table (entries_of q h) refuse (λ bundles. on_segment (record_of q.image h (q.number - 1)) refuse (λ s. decide refuse (size_checks q h s) (go h s))))))
-      over (headers.Accepted h) = rw (map_table h (entries_of q h)) (of_checks ((lacks h.segments.count q.number ⇒ NoSuchNumber) ∷ []) _)
-      over (headers.Refused why) = refl
+      over : (a : Result Header Refusal) → on_result a (λ why. f (refuse why)) (λ h. decide (λ why. f (refuse why)) ((lacks h.segments.count q.number ⇒ NoSuchNumber) ∷ []) (on_table (entries_of q h) (λ why. f (refuse why)) (λ bundles. on_result (record_of q.image h (q.number - 1)) (λ why. f (refuse why)) (λ s. decide (λ why. f (refuse why)) (size_checks q h s) (f (go h s)))))) ≡ f (on_result a refuse (λ h. decide refuse ((lacks h.segments.count q.number ⇒ NoSuchNumber) ∷ []) (on_table (entries_of q h) refuse (λ bundles. on_result (record_of q.image h (q.number - 1)) refuse (λ s. decide refuse (size_checks q h s) (go h s))))))
+      over (Ok h) = rw (map_table h (entries_of q h)) (of_checks ((lacks h.segments.count q.number ⇒ NoSuchNumber) ∷ []) _)
+      over (Err why) = refl
 
 -- Preparing goes over the records.
 abbrev pub IsWalked : Request → Outcome → Type 0

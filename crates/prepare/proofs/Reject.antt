@@ -3,6 +3,7 @@
 --     rejected     the refusal's number, beside it at most the bad record's; output as it came, marks all zeros
 --     never_26     24 or 25 always comes before 26, so it is never given: over all images that consist of bytes
 -- Assumes nothing.
+use Rattle.std.specs.Prelude.{Ok, Some}
 use mathlib.Core.Path.{◌≡◌, refl, sym, ◌∙◌}
 use mathlib.Core.Logic.{◌⊎◌, inl, inr}
 use mathlib.Core.List.{List, []}
@@ -26,7 +27,6 @@ use Rattle.site.specs.Site.{Site}
 use Rattle.site.specs.BadSite.{Bad, outside, taken, BadSite}
 use Rattle.site.specs.Walk.{Walk, Walked, Stopped}
 use Rattle.site.specs.declared.Fixup.{Fixup}
-use Rattle.site.specs.declared.Action.TheVariants.{Apply}
 use Rattle.site.proofs.Accept.{accepted_sound, sound_accepted}
 use Rattle.site.proofs.Stop as stop
 use Rattle.site.proofs.Stop.{StopsAt, stops}
@@ -57,7 +57,7 @@ bad_number (taken k n) = omega arith
 record_number : (q : Request) (h : Header) (s : Segment) (index : ℕ) (why : Refusal) → BadRecord q h s index why → Between 22 25 why
 record_number q h s index why b = go b.because
   where
-    go : RefusedAs q.image h (record_in q s index) why ⊎ ((f : Fixup) × (action_in q h s index ≡ Apply f) × BadSite (stored_of q s) b.before.sites f why) → Between 22 25 why
+    go : RefusedAs q.image h (record_in q s index) why ⊎ ((f : Fixup) × (action_in q h s index ≡ Ok (Some f)) × BadSite (stored_of q s) b.before.sites f why) → Between 22 25 why
     go (inl r) = omega (arith, refused_number r)
     go (inr w) = omega (arith, bad_number w.2.bad)
 
@@ -76,10 +76,10 @@ module _ (q : Request) (bytes : Bytes q.image) (h : Header) (s : Segment) (ready
         let z = sym walk ∙ st.there in
         never cc
 
-    because : (sites : List Site) → st.sites ≡ sites → RefusedAs q.image h (record_in q s st.index) why ⊎ ((f : Fixup) × (action_in q h s st.index ≡ Apply f) × BadSite (stored_of q s) sites f why)
+    because : (sites : List Site) → st.sites ≡ sites → RefusedAs q.image h (record_in q s st.index) why ⊎ ((f : Fixup) × (action_in q h s st.index ≡ Ok (Some f)) × BadSite (stored_of q s) sites f why)
     because sites e = go (rw e at st.because)
       where
-        go : stop.Because (stored_of q s) sites (action_in q h s st.index) why → RefusedAs q.image h (record_in q s st.index) why ⊎ ((f : Fixup) × (action_in q h s st.index ≡ Apply f) × BadSite (stored_of q s) sites f why)
+        go : stop.Because (stored_of q s) sites (action_in q h s st.index) why → RefusedAs q.image h (record_in q s st.index) why ⊎ ((f : Fixup) × (action_in q h s st.index ≡ Ok (Some f)) × BadSite (stored_of q s) sites f why)
         go (inl r) = inl (refused_as q.image h q.selectors (import_answer q st.index) (record_in q s st.index) ready.selectors why r)
         go (inr w) = inr w
 

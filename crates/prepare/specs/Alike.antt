@@ -1,11 +1,9 @@
 -- "Answers depend on the selectors of segments that are targeted and on the answers at import records."
-use Rattle.std.specs.Prelude.{◌≡◌, List, [], ℕ, ◌-◌, ◌<◌, length, get_or}
+use Rattle.std.specs.Prelude.{◌≡◌, List, [], ℕ, ◌-◌, ◌<◌, length, get_or, Ok}
 use Rattle.header.specs.Header.{header_of}
 use Rattle.header.specs.declared.Header.{Header}
-use Rattle.header.specs.declared.Answer.TheVariants as headers
 use Rattle.segment.specs.Segment.{record_of}
 use Rattle.segment.specs.declared.Segment.{Segment}
-use Rattle.segment.specs.declared.Answer.TheVariants as segments
 use Rattle.fixup.specs.Target.{target_of}
 use Rattle.fixup.specs.Action.{AgreeAt}
 use Rattle.prepare.specs.Prepare.{Request, Outcome, Prepared, Refused, record_in, import_answer}
@@ -20,7 +18,7 @@ with_lists q selectors answers =
 pub record Alike (q : Request) (selectors answers : List ℕ) : Type 0 where
   pub as_many_selectors : length q.selectors ≡ length selectors
   pub as_many_answers : length q.answers ≡ length answers
-  pub agree : (h : Header) (s : Segment) → header_of q.image ≡ headers.Accepted h → record_of q.image h (q.number - 1) ≡ segments.Accepted s → (i : ℕ) → i < s.records → AgreeAt q.selectors selectors (import_answer q i) (get_or answers i 0) (target_of q.image h (record_in q s i))
+  pub agree : (h : Header) (s : Segment) → header_of q.image ≡ Ok h → record_of q.image h (q.number - 1) ≡ Ok s → (i : ℕ) → i < s.records → AgreeAt q.selectors selectors (import_answer q i) (get_or answers i 0) (target_of q.image h (record_in q s i))
 
 -- An outcome but for the segment's bytes: the refusal with its record, or the site count and the marks.
 abbrev pub but_bytes : Outcome → Outcome

@@ -1,14 +1,15 @@
 -- Document 01, "Preparing: 8, the entry table's 12 to 14, then 10, 11, 9, 21, then records in file order".
-use Rattle.std.specs.Prelude.{ℕ, ◌-◌, List, [], ◌∷◌, ◌++◌, ltb, length, get_or, take, drop}
+use Rattle.std.specs.Prelude.{ℕ, ◌-◌, List, [], ◌∷◌, ◌++◌, ltb, length, get_or, take, drop, Result, Ok, Err, Option}
 use Rattle.le.specs.Slice.{zeros}
 use Rattle.lists.specs.Lists.{each}
 use Rattle.checks.specs.Checks.{Check, ◌⇒◌, decide}
 use Rattle.refusal.specs.Number.{number_of}
 use Rattle.refusal.specs.declared.Refusal.{Refusal}
 use Rattle.refusal.specs.declared.Refusal.TheVariants.{NoSuchNumber, SelectorsShort, AnswersShort, OutputShort, MarksShort}
-use Rattle.header.specs.Header.{header_of, on_header, lacks}
+use Rattle.header.specs.Header.{header_of, lacks}
+use Rattle.checks.specs.Onward.{on_result}
 use Rattle.header.specs.declared.Header.{Header}
-use Rattle.segment.specs.Segment.{record_of, on_segment}
+use Rattle.segment.specs.Segment.{record_of}
 use Rattle.segment.specs.declared.Segment.{Segment}
 use Rattle.tables.specs.Table.{on_table}
 use Rattle.entry.specs.Table.{EntryTable, table_of}
@@ -18,9 +19,8 @@ use Rattle.fixup.specs.Action.{action_of}
 use Rattle.fixup.specs.declared.Record.{Record}
 use Rattle.site.specs.Walk.{Walk, Walked, Stopped, walk_of}
 use Rattle.site.specs.Prepared.{prepared, marked}
-use Rattle.site.specs.declared.Action.{Action}
-use Rattle.prepare.specs.declared.Answer.{Answer}
-use Rattle.prepare.specs.declared.Answer.TheVariants as answers
+use Rattle.prepare.specs.declared.Rejection.{Rejection}
+use Rattle.site.specs.declared.Fixup.{Fixup}
 
 -- What preparing is given: the image, the segment's number, the selectors, the import answers, and how long the output and
 -- the marks are.
@@ -56,14 +56,14 @@ record_in q s i = record_at (list_of q s) i
 abbrev pub import_answer : Request → ℕ → ℕ
 import_answer q i = get_or q.answers i 0
 
-abbrev pub action_in : Request → Header → Segment → ℕ → Action
+abbrev pub action_in : Request → Header → Segment → ℕ → Result (Option Fixup) Refusal
 action_in q h s i = action_of q.image h q.selectors (import_answer q i) (record_in q s i)
 
 -- All records in file order.
 abbrev pub records_of : Request → Segment → List Record
 records_of q s = each s.records (record_in q s)
 
-abbrev pub actions_of : Request → Header → Segment → List Action
+abbrev pub actions_of : Request → Header → Segment → List (Result (Option Fixup) Refusal)
 actions_of q h s = each s.records (action_in q h s)
 
 -- "21: selectors under the segment count, import answers under the record count, output under the allocation, or marks under
@@ -96,10 +96,10 @@ entries_of q h = table_of (table_bytes q.image h) h.segments.count
 -- The refusals 1 to 7, 8, 12 to 14, 10, 11, 9 and 21 in this order, or what follows of the header and the segment.
 abbrev pub on_ready : {A : Type 0} → Request → (Refusal → A) → (Header → Segment → A) → A
 on_ready q refuse go =
-    on_header (header_of q.image) refuse λ h.
+    on_result (header_of q.image) refuse λ h.
     decide refuse ((lacks h.segments.count q.number ⇒ NoSuchNumber) ∷ [])
     (on_table (entries_of q h) refuse λ bundles.
-    on_segment (record_of q.image h (q.number - 1)) refuse λ s.
+    on_result (record_of q.image h (q.number - 1)) refuse λ s.
     decide refuse (size_checks q h s) (go h s))
 
 -- Then those of the records, or the prepared segment.
@@ -107,15 +107,15 @@ unfoldable pub prepare_of : Request → Outcome
 prepare_of q = on_ready q refuse λ h s. outcome_of q s (walked_of q h s)
 
 -- The answer of an outcome: the site count, or the refusal with its record.
-abbrev pub answer_of : Outcome → Answer
-answer_of (Prepared sites bytes marks) = answers.Accepted sites
-answer_of (Refused why number) = answers.Refused why number
+abbrev pub answer_of : Outcome → Result ℕ Rejection
+answer_of (Prepared sites bytes marks) = Ok sites
+answer_of (Refused why number) = Err (record { why = why; number = number })
 
 -- The numbers of an answer: the refusal, 0 for none, the record and the site count. "All values in a refusal are 0; 22 to
 -- 26 [...] also give its number".
-abbrev pub values_of : Answer → List ℕ
-values_of (answers.Accepted sites) = 0 ∷ 0 ∷ sites ∷ []
-values_of (answers.Refused why number) = number_of why ∷ number ∷ 0 ∷ []
+abbrev pub values_of : Result ℕ Rejection → List ℕ
+values_of (Ok sites) = 0 ∷ 0 ∷ sites ∷ []
+values_of (Err r) = number_of r.why ∷ r.number ∷ 0 ∷ []
 
 -- The output, as it was before and as it is left. "Output stays unchanged"; "output past the allocation is unchanged".
 abbrev pub output_after : Outcome → List ℕ → List ℕ

@@ -1,12 +1,10 @@
 -- When preparing accepts, in words about the image and not about how it is gone over.
-use Rattle.std.specs.Prelude.{◌≡◌, false, List, ℕ, ◌-◌, ◌≤◌, length}
+use Rattle.std.specs.Prelude.{◌≡◌, false, List, ℕ, ◌-◌, ◌≤◌, length, Ok}
 use Rattle.lists.specs.Lists.{All, Pairs}
 use Rattle.header.specs.Header.{header_of, lacks}
 use Rattle.header.specs.declared.Header.{Header}
-use Rattle.header.specs.declared.Answer.TheVariants as headers
 use Rattle.segment.specs.Segment.{record_of}
 use Rattle.segment.specs.declared.Segment.{Segment}
-use Rattle.segment.specs.declared.Answer.TheVariants as segments
 use Rattle.tables.specs.Table as tables
 use Rattle.bundle.specs.declared.Bundle.{Bundle}
 use Rattle.fixup.specs.Action.{KnownType}
@@ -17,7 +15,7 @@ use Rattle.prepare.specs.Prepare.{Request, Prepared, prepare_of, entries_of, sto
 
 -- The header is accepted, and its segment table has the number.
 pub record Numbered (q : Request) (h : Header) : Type 0 where
-  pub header : header_of q.image ≡ headers.Accepted h
+  pub header : header_of q.image ≡ Ok h
   pub number : lacks h.segments.count q.number ≡ false
 
 -- The entry table is sound too, and the segment's record is accepted.
@@ -25,7 +23,7 @@ pub record Found (q : Request) (h : Header) (s : Segment) : Type 0 where
   pub numbered : Numbered q h
   pub bundles : List Bundle
   pub entries : entries_of q h ≡ tables.Sound bundles
-  pub segment : record_of q.image h (q.number - 1) ≡ segments.Accepted s
+  pub segment : record_of q.image h (q.number - 1) ≡ Ok s
 
 -- The image's own checks, the segment's number and the sizes are passed, and these are the header and the segment.
 pub record Ready (q : Request) (h : Header) (s : Segment) : Type 0 where

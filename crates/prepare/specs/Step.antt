@@ -3,7 +3,8 @@
 use Rattle.std.specs.Prelude.{◌≡◌, ℕ}
 use mathlib.Core.List.{List, [], Perm}
 use Rattle.lists.specs.Lists.{in_turn, each}
-use Rattle.header.specs.Header.{header_of, on_header}
+use Rattle.header.specs.Header.{header_of}
+use Rattle.checks.specs.Onward.{on_result}
 use Rattle.segment.specs.declared.Segment.{Segment}
 use Rattle.fixup.specs.Record.{record_at, bytes_at}
 use Rattle.fixup.specs.Action.{action_of}
@@ -23,13 +24,13 @@ one_of bytes answer = record { bytes = bytes; answer = answer }
 -- "An OS fixup, an unknown type or an unresolved target changes nothing." With an unsound header no target resolves.
 unfoldable pub step_of : List ℕ → List ℕ → Given → List ℕ → List ℕ
 step_of image selectors g buffer =
-    on_header (header_of image) (λ why. buffer) λ h.
+    on_result (header_of image) (λ why. buffer) λ h.
     site.step_of (action_of image h selectors g.answer (record_at g.bytes 0)) buffer
 
 -- The record's own sites: those that the step writes in a buffer.
 unfoldable pub visited_of : List ℕ → List ℕ → Given → List ℕ → List Site
 visited_of image selectors g buffer =
-    on_header (header_of image) (λ why. []) λ h.
+    on_result (header_of image) (λ why. []) λ h.
     site.visited (action_of image h selectors g.answer (record_at g.bytes 0)) buffer
 
 -- All records of a segment, each with its own answer, in file order.

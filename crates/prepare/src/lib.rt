@@ -2,11 +2,22 @@
 // has its code.
 #![tactic(auto)]
 
+ghost use Rattle.std.specs.Prelude.{◌≡◌};
+
 use refusal::Refusal;
 
-// The site count, or the refusal with the number of its record, counted from 1; 0 where it is not at a record.
-#[derive(Clone, Copy)]
-pub enum Answer {
-    Accepted(u32),
-    Refused(Refusal, u32),
+// Why preparing is refused: the refusal with the number of its record, counted from 1; 0 where it is not at a record.
+#[derive(Clone, Copy, Debug, PartialEq, Eq)]
+pub struct Rejection {
+    pub why: Refusal,
+    pub number: u32,
+}
+
+impl From<Refusal> for Rejection {
+    ghost from_gives = { λ why r. r ≡ record { why = why; number = 0 } };
+
+    // A refusal that is not at a record.
+    fn from(why: Refusal) -> Rejection {
+        Rejection { why, number: 0 }
+    }
 }

@@ -8,17 +8,18 @@ ghost use Rattle.std.specs.Prelude.{◌≡◌};
 ghost use Rattle.prepare.specs.Prepare.{request_of};
 ghost use Rattle.ready.specs.Internal.{ready_of, sized_of};
 
-use header::Header;
+use header::{Header, Module};
 use refusal::Refusal;
 use segment::Segment;
 
+// The header and the segment of a request that passed all of that.
 #[derive(Clone, Copy)]
-pub enum Answer {
-    Passed(Header, Segment),
-    Refused(Refusal),
+pub struct Passed {
+    pub header: Header,
+    pub segment: Segment,
 }
 
-// The header and the segment, if all of that is passed. `output` and `marks` are the lengths of these two.
+// The header and the segment of a request. `output` and `marks` are the lengths of these two.
 pub fn check(
     image: &[u8],
     number: u32,
@@ -26,20 +27,13 @@ pub fn check(
     answers: &[u32],
     output: usize,
     marks: usize,
-) -> Answer
+) -> Result<Passed, Refusal>
     ensures { result ≡ ready_of (request_of image.now number selectors.now answers.now output marks) }
 {
-    let headers = header::read(image);
-    match headers {
-        header::Answer::Refused(why) => Answer::Refused(why),
-        header::Answer::Accepted(h) => {
-            let found = found::segment(image, h, number);
-            match found {
-                segment::Answer::Refused(why) => Answer::Refused(why),
-                segment::Answer::Accepted(s) => sized(h, s, selectors, answers, output, marks),
-            }
-        }
-    }
+    let header = header::read(image)?;
+    let m = Module { image, header };
+    let s = found::segment(&m, number)?;
+    sized(m.header, s, selectors, answers, output, marks)
 }
 
 // The sizes of what is lent: 21.
@@ -51,20 +45,23 @@ fn sized(
     answers: &[u32],
     output: usize,
     marks: usize,
-) -> Answer
+) -> Result<Passed, Refusal>
     ensures { result ≡ sized_of h s selectors.now answers.now output marks }
 {
     if selectors.len() < h.segments.count as usize {
-        return Answer::Refused(Refusal::SelectorsShort);
+        return Err(Refusal::SelectorsShort);
     }
     if answers.len() < s.records as usize {
-        return Answer::Refused(Refusal::AnswersShort);
+        return Err(Refusal::AnswersShort);
     }
     if output < s.allocation as usize {
-        return Answer::Refused(Refusal::OutputShort);
+        return Err(Refusal::OutputShort);
     }
     if marks < s.stored as usize {
-        return Answer::Refused(Refusal::MarksShort);
+        return Err(Refusal::MarksShort);
     }
-    Answer::Passed(h, s)
+    Ok(Passed {
+        header: h,
+        segment: s,
+    })
 }

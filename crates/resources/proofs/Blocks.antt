@@ -3,42 +3,25 @@
 --     ended        type 0 ends them
 --     one_block    a block, and the blocks behind it
 -- Assumes nothing.
-use mathlib.Core.Path.{◌≡◌, ◌∙◌, refl}
-use mathlib.Core.Bool.{Bool, true, false, cond}
-use mathlib.Core.List.{List, [], ◌∷◌}
+use mathlib.Core.Path.{◌≡◌, ◌∙◌}
+use mathlib.Core.List.{List, []}
 use Prim.Native.Nat.{ℕ, ◌+◌, ◌*◌, ◌≤◌, ◌<◌}
 use native.Mathlib.Omega.{arith}
 use borrow.Author.Tests.{lt-ltb, le-ltb, eq-eqb, ne_eqb, ltb-false}
-use lib.Dec.{ltb, eqb}
 use lib.ListN.{length}
 use Rattle.le.specs.Number.{word_at}
 use Rattle.refusal.specs.declared.Refusal.{Refusal}
 use Rattle.refusal.specs.declared.Refusal.TheVariants.{ResourceTable}
-use Rattle.checks.proofs.Impossible.{never}
-use Rattle.checks.specs.Checks.{◌⇒◌, decide}
 use Rattle.tables.specs.Table.{Place, Step, Next, End, Stop, Table, Sound, Unsound, after, on_step, table_of}
 use Rattle.tables.proofs.Turns.{unrolled}
 use Rattle.resources.specs.declared.Resource.{Resource}
-use Rattle.resources.specs.declared.block.Block.{Block}
 use Rattle.resources.specs.Resource.{step_of, block_at, behind, block_resources}
 
 module _ (image : List ℕ) (shift : ℕ) where
   -- A step that goes on has passed the checks.
   pub went : (p : Place) (xs : List Resource) (t : Place) → step_of image shift p ≡ Next xs t → (xs ≡ block_resources image (block_at image shift p)) × (t ≡ behind (block_at image shift p)) × (t.at ≤ length image)
   unfolding step_of
-  went p xs t e = go (ltb (length image) (p.at + 2)) (eqb (word_at image p.at) 0) (ltb (length image) (p.at + 8 + 12 * word_at image (p.at + 2))) refl e
-    where
-      b : Block
-      b = block_at image shift p
-
-      go : (short none long : Bool) → ltb (length image) (p.at + 8 + 12 * word_at image (p.at + 2)) ≡ long → ◌≡◌ {A = Step Resource Refusal} (decide Stop ((short ⇒ ResourceTable) ∷ []) (cond none End (decide Stop ((long ⇒ ResourceTable) ∷ []) (Next (block_resources image (block_at image shift p)) (behind (block_at image shift p)))))) (Next xs t) → (xs ≡ block_resources image (block_at image shift p)) × (t ≡ behind (block_at image shift p)) × (t.at ≤ length image)
-      go true none long q h = never cc
-      go false true long q h = never cc
-      go false false true q h = never cc
-      go false false false q h =
-          let there : t ≡ behind (block_at image shift p) = cc in
-          let fits : p.at + 8 + 12 * word_at image (p.at + 2) ≤ length image = ltb-false _ _ q in
-          (cc, there, rw there fits)
+  went p xs t e = grind (arith, ltb-false)
 
   on : (p : Place) (xs : List Resource) (t : Place) → step_of image shift p ≡ Next xs t → (p.at < t.at) × (t.at ≤ length image)
   on p xs t e =

@@ -1,4 +1,5 @@
 pub mod InBlock
 pub mod Blocks
+pub mod Walk
 pub mod Answers
 pub mod Bounds

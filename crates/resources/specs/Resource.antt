@@ -1,17 +1,16 @@
 -- Document 01, "Resources": the table as a list of resources in file order, and the two queries.
-use Rattle.std.specs.Prelude.{ℕ, zero, suc, ◌+◌, ◌*◌, ◌/◌, ◌^◌, Bool, cond, ◌&&◌, List, [], ◌∷◌, length, ltb, eqb}
+use Rattle.std.specs.Prelude.{ℕ, zero, suc, ◌+◌, ◌*◌, ◌/◌, ◌^◌, Bool, cond, ◌&&◌, List, [], ◌∷◌, length, ltb, eqb, Result, Ok, Err}
 use Rattle.le.specs.Number.{word_at}
 use Rattle.refusal.specs.declared.Refusal.{Refusal}
 use Rattle.refusal.specs.declared.Refusal.TheVariants.{NoSuchNumber, ResourceTable, ResourceShift, NoSuchResource, ResourceOutside}
 use Rattle.checks.specs.Checks.{◌⇒◌, decide}
 use Rattle.tables.specs.Table.{Place, Step, Next, End, Stop, Table, Sound, Unsound, on_table, table_of}
 use Rattle.tables.specs.Query.{numbered, first_of}
-use Rattle.header.specs.Header.{header_of, on_header}
+use Rattle.header.specs.Header.{header_of}
+use Rattle.checks.specs.Onward.{◌>>=◌}
 use Rattle.header.specs.declared.Header.{Header}
 use Rattle.resources.specs.declared.Resource.{Resource}
 use Rattle.resources.specs.declared.block.Block.{Block}
-use Rattle.resources.specs.declared.Answer.{Answer}
-use Rattle.resources.specs.declared.Answer.TheVariants.{Accepted, Refused}
 
 -- "offset, length, flags, id, 4 reserved. [...] Offset and length are both shifted". The resource of an index, counted from 0
 -- in its block; "resources are numbered from 1 in that order, all types together".
@@ -68,16 +67,16 @@ resources_of image h =
     (blocks_from image shift (at + 2)))
 
 -- "20: found resource's data leaves the image".
-unfoldable pub data_checked : ℕ → Resource → Answer
-data_checked len r = decide Refused ((ltb len (r.at + r.len) ⇒ ResourceOutside) ∷ []) (Accepted r)
+unfoldable pub data_checked : ℕ → Resource → Result Resource Refusal
+data_checked len r = decide Err ((ltb len (r.at + r.len) ⇒ ResourceOutside) ∷ []) (Ok r)
 
 -- "Resource: 18, then 8 or 19, then 20": the header's refusals, the table's, then what is asked of its resources.
-abbrev pub asked : List ℕ → (List Resource → Answer) → Answer
-asked image query = on_header (header_of image) Refused λ h. on_table (resources_of image h) Refused query
+abbrev pub asked : List ℕ → (List Resource → Result Resource Refusal) → Result Resource Refusal
+asked image query = header_of image >>= λ h. on_table (resources_of image h) Err query
 
 -- "8: number 0 or above the count".
-unfoldable pub resource_by_number : List ℕ → ℕ → Answer
-resource_by_number image number = asked image (numbered number (data_checked (length image)) (Refused NoSuchNumber))
+unfoldable pub resource_by_number : List ℕ → ℕ → Result Resource Refusal
+resource_by_number image number = asked image (numbered number (data_checked (length image)) (Err NoSuchNumber))
 
 -- "A query gives two words with the high bit set; a word without it finds nothing." A number over 16 bits
 -- is no such word.
@@ -88,5 +87,5 @@ abbrev pub has_kind_and_id : ℕ → ℕ → Resource → Bool
 has_kind_and_id kind id r = high_bit kind && (high_bit id && (eqb r.kind kind && eqb r.id id))
 
 -- "First match in file order". "19: resource not found".
-unfoldable pub resource_by_words : List ℕ → ℕ → ℕ → Answer
-resource_by_words image kind id = asked image (first_of (has_kind_and_id kind id) (data_checked (length image)) (Refused NoSuchResource))
+unfoldable pub resource_by_words : List ℕ → ℕ → ℕ → Result Resource Refusal
+resource_by_words image kind id = asked image (first_of (has_kind_and_id kind id) (data_checked (length image)) (Err NoSuchResource))

@@ -5,13 +5,14 @@
 
 mod block;
 mod table;
+mod wanted;
 
 ghost use Rattle.std.specs.Prelude.{◌≡◌};
-ghost use Rattle.resources.specs.Resource.{resource_by_number, resource_by_words};
-ghost use Rattle.resources.specs.Internal.{answer_of, answer_in, concluded};
+ghost use Rattle.resources.specs.Resource.{resource_by_number, resource_by_words, data_checked};
+ghost use Rattle.resources.specs.Internal.{found_of};
 
-use header::Header;
 use refusal::Refusal;
+use wanted::{Named, Numbered, Wanted};
 
 #[derive(Clone, Copy)]
 pub struct Resource {
@@ -26,96 +27,55 @@ pub struct Resource {
     pub len: u32,
 }
 
-// What a request for a resource answers.
-#[derive(Clone, Copy)]
-pub enum Answer {
-    Accepted(Resource),
-    Refused(Refusal),
-}
-
-// What is asked for: a number, or a type word and an id word.
-#[derive(Clone, Copy)]
-enum Request {
-    Number(u32),
-    Words(u32, u32),
-}
-
-// What a search has found.
-#[derive(Clone, Copy)]
-enum Match {
-    Found(Resource),
-    Nothing,
-}
-
-// What a walk of the whole table answers.
-#[derive(Clone, Copy)]
-enum Walked {
-    Sound(Match),
-    Unsound(Refusal),
-}
-
 // The resource of a number.
-pub fn by_number(image: &[u8], number: u32) -> Answer
+#[tactic(auto, using(crate::proofs::Answers::by_number))]
+pub fn by_number(image: &[u8], number: u32) -> Result<Resource, Refusal>
     ensures { result ≡ resource_by_number image.now number }
 {
-    ask(image, Request::Number(number), Refusal::NoSuchNumber)
+    let numbered = Numbered {
+        number: number as usize,
+    };
+    let found = search(image, &numbered)?.ok_or(Refusal::NoSuchNumber)?;
+    checked(image.len(), found)
 }
 
 // The first resource with this type word and this id word.
-pub fn by_words(image: &[u8], kind: u32, id: u32) -> Answer
+#[tactic(auto, using(crate::proofs::Answers::by_words))]
+pub fn by_words(image: &[u8], kind: u32, id: u32) -> Result<Resource, Refusal>
     ensures { result ≡ resource_by_words image.now kind id }
 {
-    ask(image, Request::Words(kind, id), Refusal::NoSuchResource)
+    let named = Named { kind, id };
+    let found = search(image, &named)?.ok_or(Refusal::NoSuchResource)?;
+    checked(image.len(), found)
 }
 
-// What is asked for; where the table hasn't got it, the refusal `none`.
-#[tactic(auto, unfolding(crate::specs::Internal::answer_of))]
-fn ask(image: &[u8], request: Request, none: Refusal) -> Answer
-    ensures { result ≡ answer_of image.now request none }
+// What is asked for, in a table that is checked as a whole.
+#[tactic(auto, unfolding(crate::specs::Internal::found_of, crate::specs::Resource::resources_of, tables::specs::Query::first_of))]
+fn search<W: Wanted>(image: &[u8], wanted: &W) -> Result<Option<Resource>, Refusal>
+    ensures { result ≡ found_of image.now (W.takes wanted.now) }
 {
-    let headers = header::read(image);
-    match headers {
-        header::Answer::Refused(why) => Answer::Refused(why),
-        header::Answer::Accepted(h) => in_table(image, h, request, none),
-    }
-}
-
-// The same once the header is known.
-#[tactic(auto, unfolding(crate::specs::Internal::answer_in, tables::specs::Query::first_of))]
-fn in_table(image: &[u8], h: Header, request: Request, none: Refusal) -> Answer
-    ensures { result ≡ answer_in image.now h request none }
-{
+    let h = header::read(image)?;
     if h.resources == h.resident {
-        return Answer::Refused(none);
+        return Ok(None);
     }
     let at = h.resources as usize;
-    let len = image.len();
-    if len < at + 2 {
-        return Answer::Refused(Refusal::ResourceTable);
+    if image.len() < at + 2 {
+        return Err(Refusal::ResourceTable);
     }
     let shift = le::word(image, at);
     if 15 < shift {
-        return Answer::Refused(Refusal::ResourceShift);
+        return Err(Refusal::ResourceShift);
     }
-    let walked = table::walk(image, shift, at + 2, request);
-    match walked {
-        Walked::Unsound(why) => Answer::Refused(why),
-        Walked::Sound(found) => conclude(len, found, none),
-    }
+    table::walk(image, shift, at + 2, wanted)
 }
 
-// The answer for what was found: data that leaves an image of `len` bytes is refused.
+// A resource whose data lie in an image of `len` bytes.
 #[tactic(auto, unfolding(crate::specs::Resource::data_checked))]
-fn conclude(len: usize, found: Match, none: Refusal) -> Answer
-    ensures { result ≡ concluded len found none }
+fn checked(len: usize, r: Resource) -> Result<Resource, Refusal>
+    ensures { result ≡ data_checked len r }
 {
-    match found {
-        Match::Nothing => Answer::Refused(none),
-        Match::Found(r) => {
-            if len < r.at as usize + r.len as usize {
-                return Answer::Refused(Refusal::ResourceOutside);
-            }
-            Answer::Accepted(r)
-        }
+    if len < r.at as usize + r.len as usize {
+        return Err(Refusal::ResourceOutside);
     }
+    Ok(r)
 }

@@ -1,14 +1,13 @@
 -- Document 01, "Segment record": one record of the segment table.
-use Rattle.std.specs.Prelude.{ℕ, ◌+◌, ◌*◌, ◌-◌, ◌/◌, ◌%◌, Bool, cond, ◌&&◌, List, [], ◌∷◌, length, ltb, eqb}
+use Rattle.std.specs.Prelude.{ℕ, ◌+◌, ◌*◌, ◌-◌, ◌/◌, ◌%◌, Bool, cond, ◌&&◌, List, [], ◌∷◌, length, ltb, eqb, Result, Ok, Err}
 use Rattle.le.specs.Number.{word_at}
 use Rattle.refusal.specs.declared.Refusal.{Refusal}
 use Rattle.refusal.specs.declared.Refusal.TheVariants.{NoSuchNumber, SegmentOutside, Iterated, AllocationShort}
 use Rattle.checks.specs.Checks.{Check, ◌⇒◌, decide}
-use Rattle.header.specs.Header.{header_of, on_header, lacks}
+use Rattle.header.specs.Header.{header_of, lacks}
+use Rattle.checks.specs.Onward.{◌>>=◌}
 use Rattle.header.specs.declared.Header.{Header}
 use Rattle.segment.specs.declared.Segment.{Segment}
-use Rattle.segment.specs.declared.Answer.{Answer}
-use Rattle.segment.specs.declared.Answer.TheVariants.{Accepted, Refused}
 
 -- "Segment record, 8 bytes: sector, length, flags, allocation." The record of an index, counted from 0.
 abbrev pub record_place : Header → ℕ → ℕ
@@ -63,18 +62,13 @@ segment_checks len sector s =
     ∷ []
 
 -- The segment of an index, once its number is known good.
-unfoldable pub record_of : List ℕ → Header → ℕ → Answer
+unfoldable pub record_of : List ℕ → Header → ℕ → Result Segment Refusal
 record_of image h index =
     let s = segment_at image h index in
-    decide Refused (segment_checks (length image) (sector_of image h index) s) (Accepted s)
+    decide Err (segment_checks (length image) (sector_of image h index) s) (Ok s)
 
 -- What asking for a segment by its number answers: the header's refusals, 8, then the record's.
-unfoldable pub segment_of : List ℕ → ℕ → Answer
+unfoldable pub segment_of : List ℕ → ℕ → Result Segment Refusal
 segment_of image number =
-    on_header (header_of image) Refused λ h.
-    decide Refused ((lacks h.segments.count number ⇒ NoSuchNumber) ∷ []) (record_of image h (number - 1))
-
--- For whoever goes on from a segment: its refusal, or what follows of it.
-abbrev pub on_segment : {A : Type 0} → Answer → (Refusal → A) → (Segment → A) → A
-on_segment (Accepted s) refuse go = go s
-on_segment (Refused why) refuse go = refuse why
+    header_of image >>= λ h.
+    decide Err ((lacks h.segments.count number ⇒ NoSuchNumber) ∷ []) (record_of image h (number - 1))

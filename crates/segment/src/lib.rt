@@ -6,7 +6,7 @@ mod fields;
 ghost use Rattle.std.specs.Prelude.{◌≡◌};
 ghost use Rattle.segment.specs.Segment.{segment_of, record_of};
 
-use header::Header;
+use header::Module;
 use refusal::Refusal;
 
 #[derive(Clone, Copy)]
@@ -21,57 +21,45 @@ pub struct Segment {
     pub list: usize,
 }
 
-#[derive(Clone, Copy)]
-pub enum Answer {
-    Accepted(Segment),
-    Refused(Refusal),
-}
-
 // The segment of a number, counted from 1.
 #[tactic(auto, using(header::proofs::Numbered::has), unfolding(crate::specs::Segment::segment_of))]
-pub fn by_number(image: &[u8], number: u32) -> Answer
+pub fn by_number(image: &[u8], number: u32) -> Result<Segment, Refusal>
     ensures { result ≡ segment_of image.now number }
 {
-    let headers = header::read(image);
-    match headers {
-        header::Answer::Refused(why) => Answer::Refused(why),
-        header::Answer::Accepted(h) => {
-            if header::lacks(h.segments.count, number) {
-                return Answer::Refused(Refusal::NoSuchNumber);
-            }
-            record(image, h, number - 1)
-        }
+    let header = header::read(image)?;
+    let m = Module { image, header };
+    if header::lacks(m.header.segments.count, number) {
+        return Err(Refusal::NoSuchNumber);
     }
+    record(&m, number - 1)
 }
 
 // The segment whose record has an index, counted from 0, once the number is known good: refusals 10, 11 and 9.
 #[tactic(auto, using(crate::proofs::Words::sector_none, crate::proofs::Words::sector_some), unfolding(crate::specs::Segment::record_of, crate::specs::Segment::segment_checks))]
-pub fn record(image: &[u8], h: Header, index: u32) -> Answer
-    ensures { result ≡ record_of image.now h index }
+pub fn record(m: &Module, index: u32) -> Result<Segment, Refusal>
+    ensures { result ≡ record_of m.now.image.now m.now.header index }
 {
-    let s = fields::read(image, h, index);
+    let len = m.image.len();
+    let s = fields::read(m, index);
     let flags = s.flags;
     if flags / 0x8 % 2 == 1 {
-        return Answer::Refused(Refusal::Iterated);
+        return Err(Refusal::Iterated);
     }
     if s.allocation < s.stored {
-        return Answer::Refused(Refusal::AllocationShort);
+        return Err(Refusal::AllocationShort);
     }
     let end = s.start + s.stored as usize;
-    if image.len() < end {
-        return Answer::Refused(Refusal::SegmentOutside);
+    if len < end {
+        return Err(Refusal::SegmentOutside);
     }
     if flags / 0x100 % 2 == 0 {
-        return Answer::Accepted(s);
+        return Ok(s);
     }
     if s.stored == 0 {
-        return Answer::Refused(Refusal::SegmentOutside);
+        return Err(Refusal::SegmentOutside);
     }
-    if image.len() < end + 2 {
-        return Answer::Refused(Refusal::SegmentOutside);
+    if len < end + 2 || len < s.list + 8 * s.records as usize {
+        return Err(Refusal::SegmentOutside);
     }
-    if image.len() < s.list + 8 * s.records as usize {
-        return Answer::Refused(Refusal::SegmentOutside);
-    }
-    Answer::Accepted(s)
+    Ok(s)
 }

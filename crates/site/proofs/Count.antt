@@ -1,5 +1,6 @@
 -- The number of sites: those in the stored chains and the single additive ones.
 -- Assumes nothing.
+use Rattle.std.specs.Prelude.{Result, Option}
 use mathlib.Core.Path.{◌≡◌, refl}
 use mathlib.Core.List.{List, map}
 use Prim.Native.Nat.{ℕ, ◌+◌}
@@ -7,9 +8,10 @@ use native.Mathlib.Omega.{arith}
 use lib.ListN.{length, length-append, length-map}
 use Rattle.site.specs.Site.{Site, site_of}
 use Rattle.site.specs.Sound.{Sites, none, os, refused, single, chain, in_chains, singles}
-use Rattle.site.specs.declared.Action.{Action}
+use Rattle.refusal.specs.declared.Refusal.{Refusal}
+use Rattle.site.specs.declared.Fixup.{Fixup}
 
-pub counted : {stored : List ℕ} {actions : List Action} {sites : List Site} (theirs : Sites stored actions sites) → length sites ≡ in_chains theirs + singles theirs
+pub counted : {stored : List ℕ} {actions : List (Result (Option Fixup) Refusal)} {sites : List Site} (theirs : Sites stored actions sites) → length sites ≡ in_chains theirs + singles theirs
 counted none = refl
 counted (os rest) = counted rest
 counted (refused why rest) = counted rest

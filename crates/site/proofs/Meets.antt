@@ -4,6 +4,7 @@
 --     site_cases    what the checks decide, by cases
 --     checks_pass   a good site passes its checks
 -- Assumes nothing.
+use Rattle.std.specs.Prelude.{Result, Err}
 use mathlib.Core.Path.{◌≡◌, refl}
 use mathlib.Core.Bool.{Bool, true, false, ◌&&◌, ◌||◌}
 use mathlib.Core.List.{List, [], ◌∷◌, ◌++◌}
@@ -22,7 +23,7 @@ use Rattle.checks.proofs.Checks.{tried}
 use Rattle.refusal.specs.declared.Refusal.{Refusal}
 use Rattle.refusal.specs.declared.Refusal.TheVariants.{SpanOutside, SpanTaken}
 use Rattle.site.specs.BadSite.{Bad, outside, taken}
-use Rattle.site.specs.Walk.{meets, meets_one, site_checks, Followed, Halted}
+use Rattle.site.specs.Walk.{meets, meets_one, site_checks}
 use Rattle.site.proofs.Spans.{wide}
 
 -- A place in two spans is below both ends.
@@ -70,13 +71,13 @@ good_more stored earlier s g inside free =
     (all_append (Inside stored) earlier (s ∷ []) g.0 (ltb-false _ _ inside, tt), pairs_append Apart earlier (s ∷ []) g.1 (tt, tt) with)
 
 -- What holds of each refusal, and of the answer where the site is good too, holds of what the checks decide.
-pub site_cases : (stored : List ℕ) (earlier : List Site) (s : Site) (answer : Followed) (P : Followed → Type 0) → Good stored earlier → ((why : Refusal) → Bad stored earlier s why → P (Halted why)) → (Good stored (earlier ++ s ∷ []) → P answer) → P (decide Halted (site_checks stored earlier s) answer)
-site_cases stored earlier s answer P g refused good = tried Halted P (site_checks stored earlier s) answer (past, λ in-stored. (met (ltb-false _ _ in-stored), λ free. tt)) (λ p. good (good_more stored earlier s g p.0 p.1.0))
+pub site_cases : (stored : List ℕ) (earlier : List Site) (s : Site) (answer : Result (List Site) Refusal) (P : Result (List Site) Refusal → Type 0) → Good stored earlier → ((why : Refusal) → Bad stored earlier s why → P (Err why)) → (Good stored (earlier ++ s ∷ []) → P answer) → P (decide Err (site_checks stored earlier s) answer)
+site_cases stored earlier s answer P g refused good = tried Err P (site_checks stored earlier s) answer (past, λ in-stored. (met (ltb-false _ _ in-stored), λ free. tt)) (λ p. good (good_more stored earlier s g p.0 p.1.0))
   where
-    past : ltb (length stored) (end_of s) ≡ true → P (Halted SpanOutside)
+    past : ltb (length stored) (end_of s) ≡ true → P (Err SpanOutside)
     past e = refused SpanOutside (outside (λ k. let z : false ≡ true = rw (le-ltb _ _ k) at e in never cc))
 
-    met : Inside stored s → meets_one s earlier ≡ true → P (Halted SpanTaken)
+    met : Inside stored s → meets_one s earlier ≡ true → P (Err SpanTaken)
     met k e = refused SpanTaken (taken k (λ a. let z : false ≡ true = rw (apart_one s earlier a) at e in never cc))
 
 pub checks_pass : (stored : List ℕ) (earlier : List Site) (s : Site) (rest : List Site) → Good stored (earlier ++ s ∷ rest) → Passed (site_checks stored earlier s)

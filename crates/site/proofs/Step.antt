@@ -5,6 +5,7 @@
 --                   and each is written as the stored bytes say
 --     single_step   the same for an additive record
 -- Assumes nothing.
+use Rattle.std.specs.Prelude.{Result, Ok, Err, Option, Some, None}
 use mathlib.Core.Path.{◌≡◌, refl, ap, ap₂, ◌∙◌}
 use mathlib.Core.Bool.{Bool, true, false, cond}
 use mathlib.Core.List.{List, [], ◌∷◌, map}
@@ -25,8 +26,7 @@ use Rattle.site.specs.Sound.{Chain, last, next}
 use Rattle.site.specs.declared.Kind.{Kind}
 use Rattle.site.specs.declared.Kind.TheVariants.{LowByte, Selector, Far, Offset}
 use Rattle.site.specs.declared.Fixup.{Fixup}
-use Rattle.site.specs.declared.Action.{Action}
-use Rattle.site.specs.declared.Action.TheVariants.{Skip, Apply, Refuse}
+use Rattle.refusal.specs.declared.Refusal.{Refusal}
 use Rattle.site.proofs.Runs.{sets_out}
 use Rattle.site.proofs.Spans.{wide, wide_chained, written_in_span}
 
@@ -61,10 +61,10 @@ own_from (suc left) f at b p h = go (ltb (length b) (end_of (site_of f at))) (is
     go false true ih k = put_kept k.0
     go false false ih k = ih (all_map (λ s. IsWritten b p s → ⊥) (λ s. IsWritten after p s → ⊥) (λ s n i. n (is_written after b p s i)) (visited_from left f (word_at b at) after) k.1) ∙ put_kept k.0
 
-pub own_sites : (a : Action) (b : List ℕ) (p : ℕ) → All (λ s. IsWritten b p s → ⊥) (visited a b) → byte_at (step_of a b) p ≡ byte_at b p
-own_sites Skip b p h = refl
-own_sites (Refuse why) b p h = refl
-own_sites (Apply f) b p h = own_from (length b) f f.site b p h
+pub own_sites : (a : Result (Option Fixup) Refusal) (b : List ℕ) (p : ℕ) → All (λ s. IsWritten b p s → ⊥) (visited a b) → byte_at (step_of a b) p ≡ byte_at b p
+own_sites (Ok None) b p h = refl
+own_sites (Err why) b p h = refl
+own_sites (Ok (Some f)) b p h = own_from (length b) f f.site b p h
 
 length_from : (left : ℕ) (f : Fixup) (at : ℕ) (b : List ℕ) → length (step_from left f at b) ≡ length b
 unfolding step_from
@@ -82,10 +82,10 @@ length_from (suc left) f at b = go (ltb (length b) (end_of (site_of f at))) (is_
     go false true ih = same
     go false false ih = ih ∙ same
 
-pub length_step : (a : Action) (b : List ℕ) → length (step_of a b) ≡ length b
-length_step Skip b = refl
-length_step (Refuse why) b = refl
-length_step (Apply f) b = length_from (length b) f f.site b
+pub length_step : (a : Result (Option Fixup) Refusal) (b : List ℕ) → length (step_of a b) ≡ length b
+length_step (Ok None) b = refl
+length_step (Err why) b = refl
+length_step (Ok (Some f)) b = length_from (length b) f f.site b
 
 -- That a buffer has the stored bytes in the span of a site.
 abbrev pub Same : List ℕ → List ℕ → Site → Type 0

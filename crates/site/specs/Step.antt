@@ -1,11 +1,10 @@
 -- Document 01, "Step of demand 3", once the record's target is resolved.
-use Rattle.std.specs.Prelude.{ℕ, zero, suc, cond, List, [], ◌∷◌, length, ltb}
+use Rattle.std.specs.Prelude.{ℕ, zero, suc, cond, List, [], ◌∷◌, length, ltb, Result, Ok, Err, Option, Some, None}
 use Rattle.le.specs.Number.{word_at}
 use Rattle.site.specs.Site.{Site, site_of, end_of, put}
 use Rattle.site.specs.Walk.{is_last}
 use Rattle.site.specs.declared.Fixup.{Fixup}
-use Rattle.site.specs.declared.Action.{Action}
-use Rattle.site.specs.declared.Action.TheVariants.{Skip, Apply, Refuse}
+use Rattle.refusal.specs.declared.Refusal.{Refusal}
 
 -- "at each site: a span past the buffer ends the step; a chained record reads the next site from the buffer; then the bytes
 -- are written as above, an additive record adding to what the buffer holds. It ends after one site if additive, else when
@@ -20,10 +19,10 @@ step_from (suc left) f at buffer =
     cond (ltb (length buffer) (end_of (site_of f at))) buffer answer
 
 -- "An OS fixup, an unknown type or an unresolved target changes nothing. From the site word on [...]".
-abbrev pub step_of : Action → List ℕ → List ℕ
-step_of Skip buffer = buffer
-step_of (Refuse why) buffer = buffer
-step_of (Apply f) buffer = step_from (length buffer) f f.site buffer
+abbrev pub step_of : Result (Option Fixup) Refusal → List ℕ → List ℕ
+step_of (Ok None) buffer = buffer
+step_of (Err why) buffer = buffer
+step_of (Ok (Some f)) buffer = step_from (length buffer) f f.site buffer
 
 -- The sites that a step writes in a buffer: its record's own. The first is at the site word, and each other one where the
 -- buffer said that it is when the step came to the one before.
@@ -35,7 +34,7 @@ visited_from (suc left) f at buffer =
     let others = cond (is_last f next) [] onward in
     cond (ltb (length buffer) (end_of (site_of f at))) [] (site_of f at ∷ others)
 
-abbrev pub visited : Action → List ℕ → List Site
-visited Skip buffer = []
-visited (Refuse why) buffer = []
-visited (Apply f) buffer = visited_from (length buffer) f f.site buffer
+abbrev pub visited : Result (Option Fixup) Refusal → List ℕ → List Site
+visited (Ok None) buffer = []
+visited (Err why) buffer = []
+visited (Ok (Some f)) buffer = visited_from (length buffer) f f.site buffer

@@ -2,8 +2,6 @@
 // `claim`, `patch`, `follow` and `step` have the code.
 #![tactic(auto)]
 
-use refusal::Refusal;
-
 // What a fixup writes at a site.
 #[derive(Clone, Copy)]
 pub enum Kind {
@@ -22,12 +20,4 @@ pub struct Fixup {
     pub site: u16,
     pub offset: u16,
     pub selector: u16,
-}
-
-// What a record asks for: nothing (an OS fixup), a fixup, or nothing that can be done.
-#[derive(Clone, Copy)]
-pub enum Action {
-    Skip,
-    Apply(Fixup),
-    Refuse(Refusal),
 }

@@ -1,34 +1,33 @@
--- A record by ordinal names its ordinal's entry, and an entry that is found is in a segment that counts from 1.
+-- The laws of a record whose target is in a segment of the module.
+--     target_counted   the segment counts from 1
+--     entry_found, entry_lost   where an ordinal is named, what it stands for decides
 -- Assumes nothing.
-use mathlib.Core.Path.{◌≡◌, refl}
-use mathlib.Core.Bool.{Bool, true, false, cond}
-use mathlib.Core.List.{List}
-use Prim.Native.Nat.{ℕ, ◌%◌}
-use native.Mathlib.Omega.{arith}
-use lib.Dec.{eqb}
-use Rattle.checks.proofs.Impossible.{never}
+use Rattle.std.proofs.Common.{◌≡◌, List, ℕ, ◌%◌, Result, Ok, Err}
+use Rattle.refusal.specs.declared.Refusal.{Refusal}
 use Rattle.header.specs.declared.Header.{Header}
 use Rattle.header.proofs.Numbered.{has}
-use Rattle.entry.specs.Ordinal.{ordinal_in}
-use Rattle.entry.proofs.Segments.{ordinal_segment}
 use Rattle.fixup.specs.declared.Record.{Record}
-use Rattle.fixup.specs.Target.{entry_target, internal_target, target_of}
-use Rattle.fixup.specs.Record.{typed_of}
-use Rattle.fixup.specs.Action.{of_type, action_of}
-use Rattle.target.specs.Internal.{Counted, by_ordinal}
+use Rattle.fixup.specs.declared.Target.{Target}
+use Rattle.fixup.specs.declared.Target.TheVariants.{Segment}
+use Rattle.fixup.specs.Target.{internal_target, target_of}
+use Rattle.bundle.specs.declared.Entry.{Entry}
+use Rattle.entry.specs.Ordinal.{ordinal_in}
+use Rattle.refusal.specs.declared.Refusal.TheVariants.{TargetOrdinal}
+use Rattle.fixup.proofs.Targets.{target_cases}
+use Rattle.target.specs.Internal.{Counted}
 
-both : (a b : Bool) → cond a b false ≡ true → (a ≡ true) × (b ≡ true)
-both true b e = (refl, e)
-both false b e = never cc
+abbrev CountedIn : Result Target Refusal → Type 0
+CountedIn (Ok t) = Counted t
+CountedIn (Err why) = Unit
 
-module _ (image : List ℕ) (h : Header) where
-  pub by_entry : (selectors : List ℕ) (answer : ℕ) (r : Record) → by_ordinal r ≡ true → action_of image h selectors answer r ≡ of_type selectors answer r (typed_of r.kind) (entry_target (ordinal_in image h r.last))
-  unfolding action_of target_of internal_target
-  by_entry selectors answer r e =
-      let is = both (eqb (r.flags % 4) 0) (eqb (r.first % 256) 255) e in
-      rw (is.0, is.1)
+pub target_counted : (image : List ℕ) (h : Header) (r : Record) (t : Target) → target_of image h r ≡ Ok t → Counted t
+target_counted image h r t e = rw e at (target_cases image h r CountedIn (λ segment offset lacked. (has _ _ lacked).0) tt tt (λ why reason. tt))
 
-  pub counted : (number : ℕ) → Counted (ordinal_in image h number)
-  counted number e found zero =
-      let low = (has _ _ (ordinal_segment image h number e found)).0 in
-      omega arith
+module _ (image : List ℕ) (h : Header) (r : Record) (is : r.first % 256 ≡ 255) where
+  pub entry_found : (e : Entry) → ordinal_in image h r.last ≡ Ok e → internal_target image h r ≡ Ok (Segment e.segment e.offset)
+  unfolding internal_target
+  entry_found e found = rw (is, found)
+
+  pub entry_lost : (why : Refusal) → ordinal_in image h r.last ≡ Err why → internal_target image h r ≡ Err TargetOrdinal
+  unfolding internal_target
+  entry_lost why lost = rw (is, lost)

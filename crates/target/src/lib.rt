@@ -2,99 +2,95 @@
 #![tactic(auto)]
 
 mod address;
+mod named;
 mod read;
 
-ghost use Rattle.std.specs.Prelude.{◌≡◌, false, ℕ};
-ghost use Rattle.entry.specs.Ordinal.{table_bytes};
+ghost use Rattle.std.specs.Prelude.{◌≡◌};
+ghost use Rattle.entry.specs.Ordinal.{table_bytes, ordinal_in};
 ghost use Rattle.entry.specs.Internal.{Indexes};
-ghost use Rattle.target.specs.Internal.{Checked, Counted, by_ordinal};
+ghost use Rattle.target.specs.Internal.{Checked, Finds};
 ghost use Rattle.fixup.specs.Record.{typed_of};
-ghost use Rattle.fixup.specs.Target.{entry_target};
-ghost use Rattle.fixup.specs.Action.{of_type, action_of};
+ghost use Rattle.fixup.specs.Action.{action_of};
 
-use bundle::Answer;
-use fixup::{Record, Typed};
-use header::Header;
+use bundle::Entry;
+use entry::Place;
+use fixup::Record;
+use header::Module;
 pub use read::{fields, record};
 use refusal::Refusal;
-use site::{Action, Kind};
+use site::{Fixup, Kind};
 
 // What a record asks for, where the entry table is known to be sound and there is an index of it.
-#[tactic(auto, unfolding(entry::specs::Ordinal::ordinal_in))]
 pub fn action(
-    image: &[u8],
-    h: Header,
-    index: &[u32],
+    m: &Module,
+    index: &[Place],
     selectors: &[u16],
     answer: u32,
     r: Record,
-) -> Action
-    requires { Checked image.now h × Indexes (table_bytes image.now h) index.now }
-    ensures { result ≡ action_of image.now h selectors.now answer r }
+) -> Result<Option<Fixup>, Refusal>
+    requires checked { Checked m.now.image.now m.now.header }
+    requires indexed { Indexes (table_bytes m.now.image.now m.now.header) index.now }
+    ensures { result ≡ action_of m.now.image.now m.now.header selectors.now answer r }
 {
-    if by_ordinal(r) {
-        let entry = entry::find(entry::table(image, h), index, r.last as u32);
-        return to_entry(selectors, r, entry);
-    }
-    to_other(image, h, selectors, answer, r)
+    let find = |number: u32| -> Result<Entry, Refusal>
+        requires checked { Checked m.now.image.now m.now.header }
+        requires index { Indexes (table_bytes m.now.image.now m.now.header) index.now }
+        ensures { result ≡ ordinal_in m.entry.now.image.now m.entry.now.header number }
+    { indexed(m, index, number) };
+    asked(m, selectors, answer, r, find)
+}
+
+// What an ordinal stands for, by an index of an entry table that is known to be sound.
+fn indexed(m: &Module, index: &[Place], number: u32) -> Result<Entry, Refusal>
+    requires checked { Checked m.now.image.now m.now.header }
+    requires index { Indexes (table_bytes m.now.image.now m.now.header) index.now }
+    ensures { result ≡ ordinal_in m.now.image.now m.now.header number }
+{
+    entry::find(entry::table(m), index, number)
 }
 
 // What a record asks for, where nothing is known of the entry table: it is checked first if an ordinal is looked for.
-pub fn alone(image: &[u8], h: Header, selectors: &[u16], answer: u32, r: Record) -> Action
-    ensures { result ≡ action_of image.now h selectors.now answer r }
+pub fn alone(
+    m: &Module,
+    selectors: &[u16],
+    answer: u32,
+    r: Record,
+) -> Result<Option<Fixup>, Refusal>
+    ensures { result ≡ action_of m.now.image.now m.now.header selectors.now answer r }
 {
-    if by_ordinal(r) {
-        let entry = entry::in_table(image, h, r.last as u32);
-        return to_entry(selectors, r, entry);
-    }
-    to_other(image, h, selectors, answer, r)
+    let find = |number: u32| -> Result<Entry, Refusal>
+        ensures { result ≡ ordinal_in m.entry.now.image.now m.entry.now.header number }
+    { entry::in_table(m, number) };
+    asked(m, selectors, answer, r, find)
 }
 
-// Whether a record's target is an ordinal of the module itself.
-fn by_ordinal(r: Record) -> bool
-    ensures { result ≡ by_ordinal r }
+// What a record asks for. `find` says what an ordinal stands for.
+#[tactic(auto, using(crate::proofs::Entries::target_counted), unfolding(fixup::specs::Action::action_of))]
+fn asked<F: FnOnce(u32) -> Result<Entry, Refusal>>(
+    m: &Module,
+    selectors: &[u16],
+    answer: u32,
+    r: Record,
+    find: F,
+) -> Result<Option<Fixup>, Refusal>
+    requires { Finds (F.pre find) (F.post find) m.now.image.now m.now.header r.last }
+    ensures { result ≡ action_of m.now.image.now m.now.header selectors.now answer r }
 {
-    if r.flags % 4 != 0 {
-        return false;
-    }
-    r.first % 256 == 255
+    let kind = typed(r.kind).ok_or(Refusal::FixupType)?;
+    let target = named::target(m, r, find)?;
+    address::to_target(selectors, answer, r, kind, target)
 }
 
 // What a record's type stands for.
 #[tactic(auto, unfolding(fixup::specs::Record::typed_of))]
-fn typed(kind: u8) -> Typed
+fn typed(kind: u8) -> Option<Kind>
     ensures { result ≡ typed_of kind }
 {
     match kind {
-        0 => Typed::Known(Kind::LowByte),
-        2 => Typed::Known(Kind::Selector),
-        3 => Typed::Known(Kind::Far),
-        5 => Typed::Known(Kind::Offset),
-        _ => Typed::Unknown,
-    }
-}
-
-// What a record by ordinal asks for, once the ordinal's entry is known.
-fn to_entry(selectors: &[u16], r: Record, entry: Answer) -> Action
-    requires { Counted entry }
-    ensures { (answer : ℕ) → result ≡ of_type selectors.now answer r (typed_of r.kind) (entry_target entry) }
-{
-    let typed = typed(r.kind);
-    match typed {
-        Typed::Unknown => Action::Refuse(Refusal::FixupType),
-        Typed::Known(kind) => address::of_entry(selectors, r, kind, entry),
-    }
-}
-
-// What a record of another kind asks for. Nothing of the entry table is looked at.
-#[tactic(auto, unfolding(fixup::specs::Action::action_of))]
-fn to_other(image: &[u8], h: Header, selectors: &[u16], answer: u32, r: Record) -> Action
-    requires { by_ordinal r ≡ false }
-    ensures { result ≡ action_of image.now h selectors.now answer r }
-{
-    let typed = typed(r.kind);
-    match typed {
-        Typed::Unknown => Action::Refuse(Refusal::FixupType),
-        Typed::Known(kind) => address::of_other(image, h, selectors, answer, r, kind),
+        0 => Some(Kind::LowByte),
+        2 => Some(Kind::Selector),
+        3 => Some(Kind::Far),
+        5 => Some(Kind::Offset),
+        _ => None,
     }
 }

@@ -1,42 +1,36 @@
--- `claim::span` meets its contract: outside, or what the claim of a span inside the marks gives.
+-- `claim::span` meets its contract: outside, or what the claim of all bytes of its slice gives.
 -- Assumes nothing.
-use mathlib.Core.Path.{◌≡◌, refl}
-use mathlib.Core.Bool.{true, false}
-use Prim.Native.Nat.{◌+◌, ◌-◌}
-use native.Mathlib.Omega.{arith}
-use borrow.Author.Tests.{lt-ltb, le-ltb}
-use lib.Dec.{ltb}
-use lib.ListN.{length}
+use Rattle.std.proofs.Common.{refl, ◌+◌, length, arith}
+use borrow.Author.Tests.{lt-ltb}
 use Rattle.claim.specs.Internal.{claim_of}
+use Rattle.claim.proofs.Spans.{answers, leaves}
 use Rattle.claim.proofs.span.Goals as goal
 
-pub returns-then-marks-end : goal.returns-then-marks-end
+pub returns-then-marks-end-clause-is : goal.returns-then-marks-end-clause-is
 unfolding claim_of
-returns-then-marks-end c =
-    let a = c.args in
-    let past : ltb (length a.marks.now) (a.at + a.width) ≡ true = lt-ltb _ _ c.if-marks-end.true in
-    (rw past refl, refl)
+returns-then-marks-end-clause-is c =
+    rw (lt-ltb (length c.args.marks.now) (c.args.at + c.args.width) c.if-marks-end.true) refl
 
-pub returns-then-width-eq2 : goal.returns-then-width-eq2
-unfolding claim_of
-returns-then-width-eq2 c =
-    let a = c.args in
-    let inside : ltb (length a.marks.now) (a.at + a.width) ≡ false = le-ltb _ _ c.if-marks-end.false in
-    let claim = c.word.ensures in
-    rw (inside, c.if-width-eq2.true) claim
+pub returns-in-2-clause-is : goal.returns-in-2-clause-is
+returns-in-2-clause-is c =
+    answers _ _ _ _ (omega arith) c.if-marks-end.false _ c.all.ensures.is
 
-pub returns-then-width-eq4 : goal.returns-then-width-eq4
-unfolding claim_of
-returns-then-width-eq4 c =
-    let a = c.args in
-    let inside : ltb (length a.marks.now) (a.at + a.width) ≡ false = le-ltb _ _ c.if-marks-end.false in
-    let claim = c.dword.ensures in
-    rw (inside, c.if-width-eq4.true) claim
+pub returns-in-2-clause-left : goal.returns-in-2-clause-left
+returns-in-2-clause-left c =
+    leaves _ _ _ _ (omega arith) c.if-marks-end.false _ _ c.all.ensures.left
 
-pub returns : goal.returns
-unfolding claim_of
-returns c =
-    let a = c.args in
-    let inside : ltb (length a.marks.now) (a.at + a.width) ≡ false = le-ltb _ _ c.if-marks-end.false in
-    let size : a.at + a.width - a.at ≡ a.width = omega arith in
-    rw inside (rw size at c.any.ensures)
+pub returns-in-4-clause-is : goal.returns-in-4-clause-is
+returns-in-4-clause-is c =
+    answers _ _ _ _ (omega arith) c.if-marks-end.false _ c.all-in-4.ensures.is
+
+pub returns-in-4-clause-left : goal.returns-in-4-clause-left
+returns-in-4-clause-left c =
+    leaves _ _ _ _ (omega arith) c.if-marks-end.false _ _ c.all-in-4.ensures.left
+
+pub returns-in_default-clause-is : goal.returns-in_default-clause-is
+returns-in_default-clause-is c =
+    answers _ _ _ _ (omega arith) c.if-marks-end.false _ c.all-in_default.ensures.is
+
+pub returns-in_default-clause-left : goal.returns-in_default-clause-left
+returns-in_default-clause-left c =
+    leaves _ _ _ _ (omega arith) c.if-marks-end.false _ _ c.all-in_default.ensures.left

@@ -1,18 +1,16 @@
--- `listing::of_any_size` meets its contract: each way is a case of the definition, and what is written from the front on is a copy.
--- Assumes nothing.
-use mathlib.Core.Path.{◌≡◌, ◌∙◌, sym}
-use Rattle.refusal.specs.Number.{number_of}
+-- Each way writes the lines, and what is written from the front on is a copy.
+use Rattle.std.proofs.Common.{◌≡◌, ◌∙◌, rules}
+use Rattle.le.specs.Slice.{copied}
+use Rattle.listing.specs.Internal.{Writes}
 use Rattle.listing.specs.Listing.{lines_of}
 use Rattle.listing.proofs.Writing.{from_front}
+use Rattle.listing.proofs.Bound.{lines_fit}
 use Rattle.listing.proofs.of_any_size.Goals as goal
+use Rattle.listing.proofs.of_any_size.Goals.{in-Err, in_default}
 
-pub returns-in-Refused : goal.returns-in-Refused
-unfolding lines_of
-returns-in-Refused c =
-    let header = sym c.read-headers.ensures ∙ c.in-Refused.is in
-    let number : c.number.result ≡ number_of c.in-Refused.why = c.number.ensures in
-    rw (header, sym number) (from_front c.numbered.ensures.0)
-
-pub returns-in-Accepted : goal.returns-in-Accepted
-unfolding lines_of
-returns-in-Accepted c = rw (sym c.read-headers.ensures ∙ c.in-Accepted.is) (from_front c.list.ensures)
+pub returns : goal.returns
+returns c =
+    let written : Writes c.new-text.result (lines_of c.args.image.now) c.match-list.text = elim c.match-list.branch [ in-Err w ↦ search rules | in_default w ↦ search rules ] in
+    let text = from_front written c.new-text.ensures.len (lines_fit c.args.image.now) in
+    let bytes : c.match-list.text.out.now ≡ copied (lines_of c.args.image.now) c.args.out.now = text.0 ∙ rw c.new-text.ensures.out in
+    record { bytes = search (rules, bytes); len = text.1 }

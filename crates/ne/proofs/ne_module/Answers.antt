@@ -6,8 +6,8 @@ use native.Mathlib.Omega.{arith}
 use Rattle.imports.proofs.Bounds.{module_accepted}
 use Rattle.ne.proofs.ne_module.Goals as goal
 
-pub overflow_cast-text_at : goal.overflow_cast-text_at
-overflow_cast-text_at c =
+pub overflow_cast-result : goal.overflow_cast-result
+overflow_cast-result c =
     let a = c.args in
-    let h = module_accepted a.image.now a.number c.in-Accepted.text (sym c.by_number-answer.ensures ∙ c.in-Accepted.is) in
+    let h = module_accepted a.image.now a.number c.in-Ok.text (sym c.by_number.ensures ∙ c.in-Ok.is) in
     omega (arith, h.0, h.1.inside)

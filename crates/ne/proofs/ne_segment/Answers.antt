@@ -6,8 +6,8 @@ use native.Mathlib.Omega.{arith}
 use Rattle.segment.proofs.Bounds.{accepted}
 use Rattle.ne.proofs.ne_segment.Goals as goal
 
-pub overflow_cast-start : goal.overflow_cast-start
-overflow_cast-start c =
+pub overflow_cast-result : goal.overflow_cast-result
+overflow_cast-result c =
     let a = c.args in
-    let h = accepted a.image.now a.number c.in-Accepted.s (sym c.by_number-answer.ensures ∙ c.in-Accepted.is) in
+    let h = accepted a.image.now a.number c.in-Ok.s (sym c.by_number.ensures ∙ c.in-Ok.is) in
     omega (arith, h.0, h.1.stored)

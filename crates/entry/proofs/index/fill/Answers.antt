@@ -19,4 +19,4 @@ loop-at-preserved c =
     let put = c.put in
     let h = c.head_at-head in
     let count : h.result.count ≡ 0 → ⊥ = c.if-count-eq0.false in
-    (omega arith, put.auto.index ∙ l.invariant.1, put_indexes a.table.now l.index put.new.index l.at l.used c.first.result (omega arith) c.first.ensures.0 l.invariant.3 l.invariant.2 put.ensures, λ segments all sound. rw c.size_of.ensures.0 (mark_goes_on a.table.now segments all l.at l.used (l.invariant.3 segments all sound) h.result h.ensures (omega arith)))
+    (omega arith, put.auto.index ∙ l.invariant.1, put_indexes a.table.now l.index put.new.index (record { at = l.at; used = l.used }) c.first.result c.first.ensures.behind l.invariant.3 l.invariant.2 put.ensures, λ segments all sound. rw c.size_of.ensures.is (mark_goes_on a.table.now segments all l.at l.used (l.invariant.3 segments all sound) h.result h.ensures.is (omega arith)))

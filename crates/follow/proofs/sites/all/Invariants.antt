@@ -5,8 +5,8 @@ use lib.ListN.{length}
 use Rattle.follow.specs.Internal.{pass_from, fuel}
 use Rattle.follow.proofs.sites.all.Given as goal
 
-abbrev pub invariant-loop-why : goal.invariant-loop-why
-invariant-loop-why l = (length l.marks ≡ length l.initial.marks) × (length l.bytes ≡ length l.initial.bytes) × (pass_from (fuel l.count) l.stored l.f l.at l.count l.marks l.bytes ≡ pass_from (fuel l.done) l.stored l.f l.f.site l.done l.initial.marks l.initial.bytes)
+abbrev pub invariant-loop-next : goal.invariant-loop-next
+invariant-loop-next l = (length l.marks ≡ length l.initial.marks) × (length l.bytes ≡ length l.initial.bytes) × (pass_from (fuel l.count) l.stored l.f l.at l.count l.marks l.bytes ≡ pass_from (fuel l.done) l.stored l.f l.f.site l.done l.initial.marks l.initial.bytes)
 
-abbrev pub decreases-loop-why : goal.decreases-loop-why
-decreases-loop-why l = fuel l.count
+abbrev pub decreases-loop-next : goal.decreases-loop-next
+decreases-loop-next l = fuel l.count

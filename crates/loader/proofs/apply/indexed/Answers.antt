@@ -1,7 +1,6 @@
--- `loader::apply::indexed` meets its contract: an array of zeros is an index already, and stays one when it is filled.
--- Assumes nothing.
-use Rattle.entry.proofs.Indexed.{zeros_index}
+-- An index of starts is an index already, and stays one when it is filled.
+use Rattle.entry.proofs.Indexed.{start_index}
 use Rattle.loader.proofs.apply.indexed.Goals as goal
 
 pub fill-requires : goal.fill-requires
-fill-requires c = zeros_index c.table.result.now 16384
+fill-requires c = start_index c.table.result.now 16384

@@ -1,6 +1,0 @@
--- `listing::text::digits` ends: the width falls.
--- Assumes nothing.
-use Rattle.listing.proofs.text.+digits.Given as goal
-
-abbrev pub decreases-digits : goal.decreases-digits
-decreases-digits l = l.width
