@@ -37,7 +37,8 @@ pub fn head_at(table: &[u8], at: usize) -> Head
 }
 
 // The bundle at a place of the table, or none where its end stands there. `used` ordinals come before it, and the module
-// has this many segments.
+// has this many segments. A call would hand its answer over through memory, which takes as long as the step itself.
+#[inline(always)]
 #[tactic(auto, unfolding(crate::specs::Bundle::step_of, crate::specs::Bundle::bundle_at, crate::specs::Bundle::bundle_checks))]
 pub fn next(table: &[u8], segments: u32, at: usize, used: u32) -> Result<Option<Bundle>, Refusal>
     ensures is { result ≡ step_of table.now segments at used }

@@ -3,14 +3,16 @@
 --     answers     what claiming the slice answers is what claiming the span does
 --     leaves      and it leaves the same marks
 --     taken_number  a span has a marked byte exactly if its bytes, read as a number, are not 0
+--     any_number    so it is with a slice of that many bytes
 -- Assumes nothing.
-use Rattle.std.proofs.Common.{◌≡◌, refl, sym, ◌∙◌, Bool, true, false, not, ◌||◌, ◌*◌, cond, nat_eq, List, ℕ, zero, suc, ◌+◌, ◌≤◌, ◌<◌, length, take, drop, drop-cons, replicate, Result, Ok, Err, MatchResult, arith}
+use Rattle.std.proofs.Common.{◌≡◌, refl, sym, ap, ◌∙◌, Bool, true, false, not, ◌||◌, ◌*◌, cond, nat_eq, List, ℕ, zero, suc, ◌+◌, ◌≤◌, ◌<◌, length, take, drop, drop-cons, replicate, Result, Ok, Err, MatchResult, arith}
 use Rattle.std.proofs.lemmas.List.{length-replicate, take-replicate}
 use Rattle.std.proofs.lemmas.Grind.{common_steps}
 use Rattle.std.specs.List.{list_any}
 use borrow.Author.Tests.{le-ltb, eq-eqb, ne_eqb, eqb-true, eqb-false}
 use borrow.Rule.Slice.PartMut.{put_mid, put_same}
 use Rattle.std.proofs.lemmas.Slice.{put_mid-paste}
+use lib.Seq.{take-length}
 use Rattle.std.proofs.lemmas.List.Edits.{sets-eq}
 use Rattle.refusal.specs.declared.Refusal.{Refusal}
 use Rattle.refusal.specs.declared.Refusal.TheVariants.{SpanTaken}
@@ -50,3 +52,8 @@ pub taken_number : (width : ℕ) (marks : List ℕ) (at : ℕ) → taken width m
 unfolding taken number
 taken_number zero marks at = refl
 taken_number (suc width) marks at = rw (taken_number width marks (suc at)) (sym (not_zero (byte_at marks at) (number width marks (suc at))))
+
+pub any_number : (width : ℕ) (bytes : List ℕ) → length bytes ≡ width → list_any (λ mark. not (nat_eq mark 0)) bytes ≡ not (nat_eq (number width bytes 0) 0)
+any_number width bytes size =
+    let all : bytes ≡ take width bytes = rw (sym size) (sym (take-length bytes)) in
+    ap (list_any (λ mark. not (nat_eq mark 0))) all ∙ taken_any width bytes 0 (omega (arith, size)) ∙ taken_number width bytes 0

@@ -5,6 +5,7 @@ ghost use Rattle.std.specs.Prelude.{◌≡◌, cond, not, ◌==◌, replicate, l
 ghost use Rattle.std.specs.List.{list_any};
 ghost use Rattle.claim.specs.Internal.{claim_of, marks_after};
 
+use le::inside::{dword, word};
 use refusal::Refusal;
 
 // Claims the span of `width` bytes from the place `at` on: its bytes are marked, unless it is refused. The widths that most
@@ -38,10 +39,15 @@ fn all(bytes: &mut [u8]) -> Result<(), Refusal>
     Ok(())
 }
 
-// Whether one of these bytes is marked.
+// Whether one of these bytes is marked. Words and pairs of words are looked at as one number each.
 #[inline(always)]
+#[tactic(auto, using(crate::proofs::Spans::any_number))]
 fn taken(bytes: &[u8]) -> bool
     ensures { result ≡ list_any (λ mark. not (mark == 0)) bytes.now }
 {
-    bytes.iter().any(|mark| *mark != 0)
+    match bytes.len() {
+        2 => word(bytes, 0) != 0,
+        4 => dword(bytes, 0) != 0,
+        _ => bytes.iter().any(|mark| *mark != 0),
+    }
 }

@@ -29,6 +29,7 @@ pub fn all(
 
 // One site: 24 and 25. The place of the next one, if it is not the last of its record. The width of its span is the same at
 // each site, and is computed before the first.
+#[tactic(auto, using(crate::proofs::Pass::refused, crate::proofs::Pass::inside, crate::proofs::Pass::free))]
 fn one(
     stored: &[u8],
     f: Fixup,
@@ -65,7 +66,7 @@ fn claimed(
         return Err(Refusal::SitesOver);
     }
     let place = at as usize;
-    let byte = le::byte(stored, place);
+    let byte = stored[place];
     if f.additive {
         patch::put(f, byte, le::word(stored, place), bytes, place);
         return Ok(None);

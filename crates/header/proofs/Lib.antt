@@ -1,3 +1,4 @@
 pub mod Bounds
 pub mod Numbered
+pub mod Onward
 pub mod Why

@@ -3,7 +3,7 @@ ghost use Rattle.std.specs.Prelude.{◌≡◌, ◌+◌, ◌≤◌, length};
 ghost use Rattle.le.specs.Number.{word_at, dword_at};
 
 // The 16-bit number at `at`.
-#[tactic(auto, unfolding(crate::specs::Number::number))]
+#[tactic(auto, using(crate::proofs::Number::word_joined))]
 pub fn word(s: &[u8], at: usize) -> u16
     requires { at + 2 ≤ length s.now }
     ensures { result ≡ word_at s.now at }
@@ -12,7 +12,7 @@ pub fn word(s: &[u8], at: usize) -> u16
 }
 
 // The 32-bit number at `at`.
-#[tactic(auto, unfolding(crate::specs::Number::number))]
+#[tactic(auto, using(crate::proofs::Number::dword_words, crate::proofs::Number::dword_joined))]
 pub fn dword(s: &[u8], at: usize) -> u32
     requires { at + 4 ≤ length s.now }
     ensures { result ≡ dword_at s.now at }

@@ -18,7 +18,7 @@ pub fn byte(s: &[u8], at: usize) -> u8
 }
 
 // The 16-bit number at `at`.
-#[tactic(auto, using(crate::proofs::Number::number_past), unfolding(crate::specs::Number::number))]
+#[tactic(auto, using(crate::proofs::Number::number_past, crate::proofs::Number::word_joined))]
 pub fn word(s: &[u8], at: usize) -> u16
     ensures { result ≡ word_at s.now at }
 {
@@ -29,7 +29,7 @@ pub fn word(s: &[u8], at: usize) -> u16
 }
 
 // The 32-bit number at `at`.
-#[tactic(auto, using(crate::proofs::Number::number_past), unfolding(crate::specs::Number::number))]
+#[tactic(auto, using(crate::proofs::Number::number_past, crate::proofs::Number::dword_words, crate::proofs::Number::dword_joined))]
 pub fn dword(s: &[u8], at: usize) -> u32
     ensures { result ≡ dword_at s.now at }
 {

@@ -2,12 +2,15 @@
 ghost use Rattle.std.specs.Prelude.{◌≡◌, length, take, drop};
 ghost use Rattle.le.specs.Slice.{copied, zeros};
 
-// Copies `src` over the front of `dst`, as many bytes as both have. The rest of `dst` stays as it came.
+// Copies `src` over the front of `dst`, as many bytes as both have. The rest of `dst` stays as it came. std's
+// copy of a slice is a call of memmove, which the library does without.
 pub fn copy(src: &[u8], dst: &mut [u8])
     ensures { dst.new ≡ copied src.now dst.old }
 {
     let n = src.len().min(dst.len());
-    dst[..n].copy_from_slice(&src[..n]);
+    for i in 0..n {
+        dst[i] = src[i];
+    }
 }
 
 // Sets every byte of `dst` to 0.

@@ -2,6 +2,8 @@
 // read gives one line on standard error.
 #![tactic(auto)]
 
+ghost use Rattle.std.specs.Prelude.{◌≤◌, length, IfOk};
+
 use std::env::{Env, FillError};
 use std::fmt::InlineText;
 use std::fs::File;
@@ -27,7 +29,9 @@ fn show(rt: &HostRuntime, image: &[u8]) -> io::Result<()> {
 }
 
 // Reads until the input ends or `image` is full, and answers what was read.
-fn fill<'a, R: Read>(input: &mut R, image: &'a mut [u8]) -> io::Result<&'a [u8]> {
+fn fill<'a, R: Read>(input: &mut R, image: &'a mut [u8]) -> io::Result<&'a [u8]>
+    ensures { IfOk result (λ part. length part.now ≤ length image.old) }
+{
     let mut n = 0;
     while n < image.len() {
         match input.read(&mut image[n..])? {
@@ -39,7 +43,9 @@ fn fill<'a, R: Read>(input: &mut R, image: &'a mut [u8]) -> io::Result<&'a [u8]>
 }
 
 // Reads the file that the argument names, or standard input without one.
-fn read<'a>(rt: &HostRuntime, image: &'a mut [u8]) -> io::Result<&'a [u8]> {
+fn read<'a>(rt: &HostRuntime, image: &'a mut [u8]) -> io::Result<&'a [u8]>
+    ensures { IfOk result (λ part. length part.now ≤ length image.old) }
+{
     let mut path = [0u8; PATH_MAX];
     match rt.arg(1, &mut path) {
         Err(FillError::NotPresent) => fill(&mut rt.stdin(), image),

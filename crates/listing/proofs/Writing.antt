@@ -2,12 +2,17 @@
 --     nothing     no text
 --     then        one text after the other
 --     from_front  text from the front on is a copy
+--     writer_front  and so is what a writer has that had no text
+--     line_parts  a line, part by part
 -- Assumes nothing.
 use Rattle.std.proofs.Common.{◌≡◌, refl, ap, sym, ◌∙◌, List, [], ◌∷◌, ◌++◌, ℕ, suc, ◌+◌, ◌^◌, ◌<◌, arith, length, length-append}
 use Prim.Native.Nat.{min}
 use lib.ListN.{set}
 use lib.Seq.{sets}
 use Rattle.le.specs.Slice.{copied}
+use Rattle.bundle.specs.declared.Entry.{Entry}
+use Rattle.listing.specs.Text.{decimal_of, hex_of}
+use Rattle.listing.specs.Listing.{line_of}
 use Rattle.listing.specs.Internal.{Writes}
 use Rattle.listing.specs.declared.text.Writer.{Writer}
 
@@ -63,7 +68,14 @@ front_copied (x ∷ l) [] =
     rw none
 front_copied (x ∷ l) (t ∷ text) = sets_cons t l 0 text ∙ rw (min_suc (length text) (length l)) (ap (t ∷◌) (front_copied l text))
 
-pub from_front : {first last : Writer} {text : List ℕ} → Writes first text last → first.len ≡ 0 → length text < 2 ^ 64 → (last.out.now ≡ copied text first.out.now) × (last.len ≡ length text)
-from_front {first} {last} {text} w none short =
+pub from_front : (out text : List ℕ) {after : List ℕ} {end : ℕ} → after ≡ sets out 0 text → end ≡ 0 + length text → (after ≡ copied text out) × (end ≡ length text)
+from_front out text bytes size = (bytes ∙ front_copied out text, omega (arith, size))
+
+pub writer_front : {first last : Writer} {text : List ℕ} → Writes first text last → first.len ≡ 0 → length text < 2 ^ 64 → (last.out.now ≡ copied text first.out.now) × (last.len ≡ length text)
+writer_front {first} {last} {text} w none short =
     let fits : first.len + length text < 2 ^ 64 = omega (arith, none, short) in
-    (w.bytes fits ∙ rw none (front_copied first.out.now text), omega (arith, none, w.len fits))
+    from_front first.out.now text (rw none at (w.bytes fits)) (rw none at (w.len fits))
+
+pub line_parts : {u v w x y : Writer} {number segment offset flag : ℕ} {n : ℕ} {e : Entry} → Writes u (decimal_of number ++ (32 ∷ [])) v → Writes v (decimal_of segment ++ (58 ∷ [])) w → Writes w (hex_of 4 offset ++ (32 ∷ [])) x → Writes x (hex_of 2 flag ++ (10 ∷ [])) y → number ≡ n → segment ≡ e.segment → offset ≡ e.offset → flag ≡ e.flag → Writes u (line_of n e) y
+unfolding line_of
+line_parts first second third fourth n s o f = then (rw n at first) (then (rw s at second) (then (rw o at third) (rw f at fourth)))

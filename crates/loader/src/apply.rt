@@ -85,7 +85,7 @@ fn in_bytes(
     ensures { Leaves (outcome_of_job job.now marks.old) result output.old output.new marks.old marks.new }
 {
     let stored = stored(job);
-    bytes.copy_from_slice(stored);
+    le::slice::copy(stored, bytes);
     match records::all(job, ordinals, stored, &mut marks[..stored.len()], bytes) {
         Err(rejection) => {
             le::slice::clear(marks);

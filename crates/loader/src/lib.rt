@@ -27,17 +27,21 @@ pub fn prepare(
     ensures { Promise (request_of image.now number selectors.now answers.now (length output.old) (length marks.old)) result output.old output.new marks.old marks.new }
 {
     le::slice::clear(marks);
-    let passed = ready::check(image, number, selectors, answers, output.len(), marks.len())?;
-    let job = Job {
-        module: Module {
-            image,
-            header: passed.header,
-        },
-        segment: passed.segment,
-        selectors,
-        answers,
-    };
-    apply::segment(&job, output, marks)
+    match ready::check(image, number, selectors, answers, output.len(), marks.len()) {
+        Err(why) => Err(Rejection::from(why)),
+        Ok(passed) => {
+            let job = Job {
+                module: Module {
+                    image,
+                    header: passed.header,
+                },
+                segment: passed.segment,
+                selectors,
+                answers,
+            };
+            apply::segment(&job, output, marks)
+        }
+    }
 }
 
 // Document 01's step of one record, given by its 8 bytes with its own import answer. The image is read for its target alone; where that

@@ -1,4 +1,5 @@
 -- The answers by the walks are those of the queries.
+--     next_few    the number after a list
 --     by_number   of a name by its number
 --     by_bytes    of a name by its bytes
 -- Assumes nothing.
@@ -7,11 +8,12 @@ use Rattle.std.specs.Option.{option_or}
 use mathlib.Core.Path.{◌≡◌, ◌∙◌, refl, sym, ap}
 use mathlib.Core.Bool.{Bool, false}
 use mathlib.Core.List.{List, [], ◌∷◌, ◌++◌}
-use Prim.Native.Nat.{ℕ, suc, ◌+◌}
+use Prim.Native.Nat.{ℕ, suc, ◌+◌, ◌*◌, ◌≤◌}
 use native.Mathlib.Omega.{arith}
 use borrow.Author.Tests.{eq-eqb}
 use lib.Dec.{eqb}
 use lib.ListN.{length, drop}
+use Rattle.checks.proofs.Impossible.{never}
 use Rattle.refusal.specs.declared.Refusal.{Refusal}
 use Rattle.refusal.specs.declared.Refusal.TheVariants.{NoSuchNumber, NoSuchName, ResidentNames}
 use Rattle.tables.specs.Table.{Table, Sound, Unsound, on_table}
@@ -25,8 +27,15 @@ use Rattle.names.specs.declared.Name.{Name}
 use Rattle.names.specs.declared.Progress.{Progress}
 use Rattle.names.specs.Text.{same}
 use Rattle.names.specs.Names.{resident_of, nonresident_of, asked, text_of, name_by_number, name_by_bytes}
-use Rattle.names.specs.Internal.{has_number, has_bytes, walk_of, found_after, found_of}
+use Rattle.names.specs.Internal.{has_number, has_bytes, onwards, walk_of, found_after, found_of}
 use Rattle.names.proofs.Numbers.{numbers}
+
+pub next_few : (limit : ℕ) (t : Table Name Refusal) (p q : Progress) (takes : ℕ → Name → Bool) → walk_of t p takes ≡ Ok q → ((ns : List Name) → t ≡ Sound ns → 4 * length ns ≤ limit) → 4 * q.used ≤ 4 * p.used + limit
+next_few limit (Sound ns) p q takes e h =
+    let is : q ≡ onwards p takes ns = cc in
+    let size = h ns refl in
+    rw is (omega (arith, size))
+next_few limit (Unsound why) p q takes e h = never cc
 
 -- What is found in one list or else in the other.
 in_both : (test other : Name → Bool) (none : Refusal) (r n : List Name) → ok_or (option_or (first_of test Some None r) (first_of other Some None n)) none ≡ first_of test Ok (first_of other Ok (Err none) n) r

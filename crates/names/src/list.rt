@@ -54,7 +54,9 @@ pub fn walk<W: Wanted>(
             len,
             ordinal: le::word(image, word),
         };
-        found = found.or_else(|| wanted.takes(first, n).then_some(n));
+        if found.is_none() && wanted.takes(first, n) {
+            found = Some(n);
+        }
         at = end;
         used += 1;
     }

@@ -34,5 +34,7 @@ pub fn word(buffer: &mut [u8], at: usize, w: u16)
     requires { at + 2 ≤ length buffer.old }
     ensures { buffer.new ≡ sets buffer.old at (bytes_of 2 w) }
 {
-    buffer[at..at + 2].copy_from_slice(&w.to_le_bytes());
+    let [low, high] = w.to_le_bytes();
+    buffer[at] = low;
+    buffer[at + 1] = high;
 }

@@ -1,8 +1,9 @@
 -- The checks by their parts.
 --     unsound, sound   what a walk of the entry table says of what follows
 --     by_header        a header that is refused
---     by_segment       of a sound one: a segment that is refused
---     by_sizes         then the sizes
+--     by_parts         of a sound one: the segment, then the sizes
+--     by_segment       a segment that is refused
+--     by_sizes         of one that is found, the sizes
 -- Assumes nothing.
 use Rattle.std.specs.Prelude.{Result, Ok, Err}
 use mathlib.Core.Path.{◌≡◌, ◌∙◌, refl}
@@ -52,7 +53,7 @@ module _ (q : Request) where
     of_number true t a = refl
     of_number false t a = of_table t a
 
-    by_parts : header_of q.image ≡ Ok h → ready_of q ≡ on (found_of q.image h q.number)
+    pub by_parts : header_of q.image ≡ Ok h → ready_of q ≡ on (found_of q.image h q.number)
     unfolding ready_of found_of sized_of size_checks
     by_parts e = rw e (of_number (lacks h.segments.count q.number) (entries_of q h) (record_of q.image h (q.number - 1)))
 

@@ -20,6 +20,7 @@ pub struct Passed {
 }
 
 // The header and the segment of a request. `output` and `marks` are the lengths of these two.
+#[tactic(auto, unfolding(crate::specs::Internal::ready_of))]
 pub fn check(
     image: &[u8],
     number: u32,

@@ -3,7 +3,8 @@
 --     number_here                    one that is finds the resource of its index
 --     kind_other, words_low          other words, or words without the high bit, find nothing
 --     words_id                       in a block of the right type the id decides
---     id_here, id_other, id_none     what is found from an index on: the resource there, or what is found after it
+--     one_more                       what is found from an index on: the resource there, or what is found after it
+--     id_here, id_other, id_none     by whether the resource there has the id
 -- Assumes nothing.
 use Rattle.std.specs.Prelude.{Option, Some, None}
 use mathlib.Core.Path.{◌≡◌, refl, sym, ◌∙◌}
@@ -99,18 +100,22 @@ module _ (image : List ℕ) (b : Block) where
   abbrev pub id_from : ℕ → ℕ → ℕ → Option Resource
   id_from id left index = first_of (has_id id) Some None (resources_from left image b index)
 
-  one_more : (id index : ℕ) → index < b.count → id_from id (b.count - index) index ≡ cond (has_id id (resource_at image b index)) (Some (resource_at image b index)) (id_from id (b.count - (index + 1)) (index + 1))
+  pub one_more : (id left index : ℕ) → 0 < left → id_from id left index ≡ cond (has_id id (resource_at image b index)) (Some (resource_at image b index)) (id_from id (left - 1) (suc index))
   unfolding first_of resources_from
-  one_more id index h =
-      let more : b.count - index ≡ suc (b.count - (index + 1)) = omega arith in
+  one_more id zero index h = absurd (omega arith)
+  one_more id (suc left) index h = let rest : suc left - 1 ≡ left = omega arith in rw rest
+
+  this_one : (id index : ℕ) → index < b.count → id_from id (b.count - index) index ≡ cond (has_id id (resource_at image b index)) (Some (resource_at image b index)) (id_from id (b.count - (index + 1)) (index + 1))
+  this_one id index h =
+      let rest : b.count - index - 1 ≡ b.count - (index + 1) = omega arith in
       let next : index + 1 ≡ suc index = omega arith in
-      rw (more, next)
+      one_more id (b.count - index) index (omega arith) ∙ rw (rest, next)
 
   pub id_here : (id index : ℕ) → index < b.count → (resource_at image b index).id ≡ id → id_from id (b.count - index) index ≡ Some (resource_at image b index)
-  id_here id index h e = one_more id index h ∙ rw (eq-eqb _ _ e)
+  id_here id index h e = this_one id index h ∙ rw (eq-eqb _ _ e)
 
   pub id_other : (id index : ℕ) → index < b.count → ((resource_at image b index).id ≡ id → ⊥) → id_from id (b.count - index) index ≡ id_from id (b.count - (index + 1)) (index + 1)
-  id_other id index h n = one_more id index h ∙ rw (ne_eqb _ _ n)
+  id_other id index h n = this_one id index h ∙ rw (ne_eqb _ _ n)
 
   pub id_none : (id index : ℕ) → b.count ≤ index → id_from id (b.count - index) index ≡ None
   unfolding first_of resources_from

@@ -5,7 +5,8 @@ ghost use Rattle.segment.specs.Segment.{segment_at, full_of, stored_of};
 use crate::Segment;
 use header::Module;
 
-// What the record of an index says, unchecked.
+// What the record of an index says, unchecked. It is put into its one caller, as that is into its own.
+#[inline(always)]
 #[tactic(auto, unfolding(crate::specs::Segment::segment_at))]
 pub fn read(m: &Module, index: u32) -> Segment
     ensures is { result ≡ segment_at m.now.image.now m.now.header index }

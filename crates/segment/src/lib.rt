@@ -27,14 +27,15 @@ pub fn by_number(image: &[u8], number: u32) -> Result<Segment, Refusal>
     ensures { result ≡ segment_of image.now number }
 {
     let header = header::read(image)?;
-    let m = Module { image, header };
-    if header::lacks(m.header.segments.count, number) {
+    if header::lacks(header.segments.count, number) {
         return Err(Refusal::NoSuchNumber);
     }
-    record(&m, number - 1)
+    record(&Module { image, header }, number - 1)
 }
 
 // The segment whose record has an index, counted from 0, once the number is known good: refusals 10, 11 and 9.
+// As a call it would want the module in memory.
+#[inline(always)]
 #[tactic(auto, using(crate::proofs::Words::sector_none, crate::proofs::Words::sector_some), unfolding(crate::specs::Segment::record_of, crate::specs::Segment::segment_checks))]
 pub fn record(m: &Module, index: u32) -> Result<Segment, Refusal>
     ensures { result ≡ record_of m.now.image.now m.now.header index }
